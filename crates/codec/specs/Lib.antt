@@ -1,0 +1,4 @@
+pub mod Steps
+pub mod Fault
+pub mod Number
+pub mod Field

@@ -1,0 +1,5 @@
+pub mod Fault
+pub mod Card
+pub mod File
+pub mod Rule
+pub mod Draft
