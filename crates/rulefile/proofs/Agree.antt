@@ -1,14 +1,14 @@
 -- A file and the records that its check wrote.
-use mathlib.Core.Path.{_≡_, refl, sym, ap, subst, _∙_}
+use mathlib.Core.Path.{_≡_, refl, sym, ap, ap₂, _∙_}
 use mathlib.Core.Bool.{Bool, true, false, cond}
-use mathlib.Core.List.{List, _++_}
-use Prim.Native.Nat.{ℕ, _-_, _<_, _≤_}
+use mathlib.Core.List.{List, _++_, map}
+use Prim.Native.Nat.{ℕ, _+_, _-_, _<_, _≤_}
 use native.Mathlib.Omega.{arith}
 use lib.ListN.{length, take, drop}
 use Rattle.std.specs.Results.{isOk}
 use Rattle.std.specs.declared.result.Result.{Result}
 use Rattle.std.specs.declared.result.Result.the-variants.{Ok, Err}
-use Rattle.std.proofs.shelf.Lists.{take-append-drop}
+use Rattle.std.proofs.shelf.Lists.{take-append-drop, drop-at, length-append, length-drop, length-map}
 use Rattle.codec.specs.Number.{Octets}
 use Rattle.rules.specs.declared.Move.{Move}
 use Rattle.rulefile.specs.declared.outline.Outline.{Outline}
@@ -17,10 +17,10 @@ use Rattle.rulefile.specs.declared.fault.FileFault.{FileFault}
 use Rattle.rulefile.specs.declared.record.LineRecord.{LineRecord}
 use Rattle.rulefile.specs.declared.record.StateRecord.{StateRecord}
 use Rattle.rulefile.specs.File.{Contents, fileOf, room, checked, overlaid, outlined, outlineOf, rowsOf, statesAt, movesAt, lineRows, stateRows, moveRows}
-use Rattle.rulefile.specs.Rule.{ruleIn}
-use Rattle.rulefile.specs.Draft.{Agrees, OfFile}
+use Rattle.rulefile.specs.Rule.{lineIn, stateIn, ruleIn}
+use Rattle.rulefile.specs.Draft.{Agrees, OfFile, line, state, move, cardsOf}
 use Rattle.codec.proofs.Steps.{inside-ok, then-ok}
-use Rattle.rulefile.proofs.Checked.{has-room, front}
+use Rattle.rulefile.proofs.Checked.{has-room, front, room-ok}
 use Rattle.rulefile.proofs.Exact.{file-sound}
 use Rattle.rulefile.proofs.Files.{outlined-ok, parts-of}
 
@@ -128,3 +128,44 @@ module _ (f : List ℕ) (ss : List StateRecord) (ms : List Move) (c : Contents) 
   drafted-moves =
       let n : o .moves - 0 ≡ length (c .moves) = omega (arith, ap (λ (x : Outline). x .moves) is) in
       ap (λ k. take k ms) n ∙ (begins (c .moves) ms (a .moves-are) ∙ sym (ap moveRows (agrees-file f ss ms c a)))
+
+-- a draft has at most 1,062 cards
+pub few-cards : (f : List ℕ) (ls : List LineRecord) (ss : List StateRecord) (ms : List Move) → length ls ≡ 6 → isOk (fileOf f) ≡ true
+    → ss ≡ stateRows (fileOf f) → ms ≡ moveRows (fileOf f) → length (cardsOf (ruleIn f ls ss ms)) ≤ 1062
+few-cards f ls ss ms six ok es em = go (fileOf f) refl
+  where
+    long : length (cardsOf (ruleIn f ls ss ms)) ≡ length ls + (length ss + length ms)
+    long =
+        length-append (map line (map (lineIn f) ls)) _ ∙ ap₂ (λ (a b : ℕ). a + b) (length-map (map (lineIn f) ls) line ∙ length-map ls (lineIn f))
+        (length-append (map state (map (stateIn f) ss)) _ ∙ ap₂ (λ (a b : ℕ). a + b) (length-map (map (stateIn f) ss) state ∙ length-map ss (stateIn f)) (length-map ms move))
+
+    go : (r : Result Contents FileFault) → fileOf f ≡ r → length (cardsOf (ruleIn f ls ss ms)) ≤ 1062
+    go (Ok c) e =
+        let p = parts-of f c e in
+        let s : length ss ≡ length (c .states) = ap length (es ∙ ap stateRows e) in
+        let m : length ms ≡ length (c .moves) = ap length (em ∙ ap moveRows e) in
+        omega (arith, long, six, s, m, p .few, p .fewMoves)
+    go (Err d) e = let no-way = sym ok ∙ ap isOk e in let z : _≡_ {A = ℕ} 0 1 = cc in absurd (omega arith)
+
+-- what was written over a list is there when it is written again
+overlaid-twice : {A : Type 0} (rows old new : List A) → new ≡ overlaid rows old → new ≡ overlaid rows new
+overlaid-twice rows old new e =
+    e ∙ ap (λ xs. rows ++ xs) (sym (ap (drop (length rows)) e ∙ drop-at rows (drop (length rows) old) (length rows) refl))
+
+overlaid-long : {A : Type 0} (rows old new : List A) → length rows ≤ length old → new ≡ overlaid rows old → length new ≡ length old
+overlaid-long rows old new l e = ap length e ∙ (length-append rows (drop (length rows) old) ∙ omega (arith, length-drop (length rows) old))
+
+-- the check leaves the lists as the making wants them
+pub checked-agrees : (f : List ℕ) (ss ss′ : List StateRecord) (ms ms′ : List Move) (c : Contents) → checked f (length ss) (length ms) ≡ Ok c
+    → ss′ ≡ overlaid (c .states) ss → ms′ ≡ overlaid (c .moves) ms → (fileOf f ≡ Ok c) × Agrees f ss′ ms′ c
+checked-agrees f ss ss′ ms ms′ c h es em =
+    let x = then-ok (λ e. e) (room (length ss) (length ms)) _ c h in
+    let y = then-ok refusal.File (fileOf f) _ c (x .2) in
+    let file : fileOf f ≡ Ok c = y .1 ∙ ap Ok (inside-ok (y .2)) in
+    let wide = room-ok (length ss) (length ms) (sym (x .1)) in
+    let p = parts-of f c file in
+    let ls : length ss′ ≡ length ss = overlaid-long (c .states) ss ss′ (omega (arith, p .few, wide .0)) es in
+    let lm : length ms′ ≡ length ms = overlaid-long (c .moves) ms ms′ (omega (arith, p .fewMoves, wide .1)) em in (
+      file,
+      record { read = rw (ls, lm) h; states-are = overlaid-twice (c .states) ss ss′ es; moves-are = overlaid-twice (c .moves) ms ms′ em },
+    )

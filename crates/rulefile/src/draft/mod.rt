@@ -13,6 +13,7 @@ pub mod access;
 pub mod make;
 
 // The file is good, and the records are what it holds.
+#[derive(Drop)]
 pub struct Draft<'a> {
     file: &'a [u8],
     lines: [LineRecord; 6],

@@ -1,0 +1,6 @@
+-- What follows from the definitions, for the crates above too.
+pub mod SetLaws
+pub mod LowestLaws
+pub mod CellLaws
+pub mod TableRule
+pub mod FourCells

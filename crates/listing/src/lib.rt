@@ -1,0 +1,3 @@
+// What the program prints, as a value.
+pub mod card;
+pub mod output;
