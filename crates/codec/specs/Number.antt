@@ -1,4 +1,5 @@
 -- What a number is as bytes, and what reading one answers.
+use mathlib.Core.Logic.{_↔_}
 use mathlib.Core.Path.{_≡_}
 use mathlib.Core.Bool.{cond, _||_}
 use mathlib.Core.List.{List, [], _∷_, _++_}
@@ -53,5 +54,4 @@ Octets f = (i : ℕ) → getD f i 0 < 256
 
 -- a number is read off a place exactly where the bytes there begin with its encoding
 abbrev pub Number-exact : Type 0
-Number-exact = (f : List ℕ) (p v q : ℕ) → Octets f
-    → (numberAt f p ≡ Ok (record { value = v; next = q }) → IsNumber f p v q) × (IsNumber f p v q → numberAt f p ≡ Ok (record { value = v; next = q }))
+Number-exact = (f : List ℕ) (p v q : ℕ) → Octets f → (numberAt f p ≡ Ok (record { value = v; next = q })) ↔ IsNumber f p v q

@@ -82,7 +82,7 @@ fn push_move(text: &mut String, step: Move) -> Result<(), fmt::Error>
 }
 
 // Writes the line of the card with the number `i`.
-pub fn push_card(text: &mut String, i: usize, card: Card) -> Result<(), fmt::Error>
+pub(crate) fn push_card(text: &mut String, i: usize, card: Card) -> Result<(), fmt::Error>
     ensures { λ r. ⌜ made r (λ _. string-bytes (now (text .exit)) ≡ string-bytes (now (text .entry)) ++ cardText i (cardValue (card .entry))) ⌝ }
 {
     match card {
@@ -93,7 +93,7 @@ pub fn push_card(text: &mut String, i: usize, card: Card) -> Result<(), fmt::Err
 }
 
 // Writes a refusal's line.
-pub fn push_refusal(text: &mut String, number: u8, place: Option<usize>) -> Result<(), fmt::Error>
+pub(crate) fn push_refusal(text: &mut String, number: u8, place: Option<usize>) -> Result<(), fmt::Error>
     ensures { λ r. ⌜ made r (λ _. string-bytes (now (text .exit)) ≡ string-bytes (now (text .entry)) ++ refusalText number place) ⌝ }
 {
     match place {

@@ -19,6 +19,7 @@ use rules::Move;
 
 // How many state records and move records a caller has to lend, whatever the file needs.
 const STATE_RECORDS: usize = 32;
+
 const MOVE_RECORDS: usize = 1024;
 
 // Whether lists of these lengths hold the records of every good file.

@@ -29,7 +29,7 @@ ChangesWorked = changeEvents (2 ∷ 5 ∷ 1 ∷ 4 ∷ []) ≡ 5 ∷ 5 ∷ 1 ∷ 
 abbrev pub RewiredLines : Type 0
 RewiredLines =
     (entries : List ℕ) (turned event : ℕ) → (rewired entries turned event < 64)
-      × ((line : ℕ) → line < 6 → has (rewired entries turned event) line ≡ turnedBy (has event (getD entries line 0)) (has turned line))
+    × ((line : ℕ) → line < 6 → has (rewired entries turned event) line ≡ turnedBy (has event (getD entries line 0)) (has turned line))
 
 -- two turns of the same lines cancel
 abbrev pub TurnsCancel : Type 0
@@ -43,5 +43,5 @@ StraightKeeps = (events : List ℕ) → AllEvents events → rewiredAll straight
 abbrev pub WiringsCompose : Type 0
 WiringsCompose =
     (upper lower : List ℕ) (above below : ℕ) → IsWiring upper above → IsWiring lower below
-      → IsWiring (through upper lower) (rewired upper above below)
-      × ((events : List ℕ) → rewiredAll upper above (rewiredAll lower below events) ≡ rewiredAll (through upper lower) (rewired upper above below) events)
+    → IsWiring (through upper lower) (rewired upper above below)
+    × ((events : List ℕ) → rewiredAll upper above (rewiredAll lower below events) ≡ rewiredAll (through upper lower) (rewired upper above below) events)

@@ -35,7 +35,7 @@ fn bytes_of_pairs(heap: Global, digits: &[u8]) -> Option<Vec<u8>>
 }
 
 // The bytes of a field; a hyphen stands for no bytes.
-pub fn bytes_of(heap: Global, field: &str) -> Option<Vec<u8>> {
+pub(crate) fn bytes_of(heap: Global, field: &str) -> Option<Vec<u8>> {
     if field == "-" {
         return Some(Vec::new(heap));
     }

@@ -30,7 +30,7 @@ const NO_MOVE: Move = Move {
 };
 
 // The word for a layer.
-pub fn layer_word(layer: Layer) -> &'static str
+pub(crate) fn layer_word(layer: Layer) -> &'static str
     ensures { λ r. ⌜ now r ≡ layerText layer ⌝ }
 {
     match layer {
@@ -49,7 +49,7 @@ fn fault_answer(heap: Global, report: Report) -> Result<String, AllocError>
 }
 
 // `ok STATES MOVES`, or `refused NUMBER PLACE LAYER`.
-pub fn reader_answer(heap: Global, file: &[u8]) -> Result<String, AllocError>
+pub(crate) fn reader_answer(heap: Global, file: &[u8]) -> Result<String, AllocError>
     ensures { λ r. ⌜ made r (λ s. string-bytes s ≡ answerText (counted (checked (now (file .entry)) 32 1024))) ⌝ }
 {
     let mut states = [NO_STATE; 32];

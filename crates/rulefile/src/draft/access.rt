@@ -25,23 +25,23 @@ fn part<'a>(file: &'a [u8], at: usize, len: usize) -> &'a [u8]
 }
 
 // A line with its name, from its record.
-fn line_card<'a>(file: &'a [u8], record: LineRecord) -> LineCard<'a>
-    ensures { λ r. ⌜ lineValue r ≡ lineIn (now (file .entry)) «record» ⌝ }
+fn line_card<'a>(file: &'a [u8], line: LineRecord) -> LineCard<'a>
+    ensures { λ r. ⌜ lineValue r ≡ lineIn (now (file .entry)) line ⌝ }
 {
-    let name = part(file, record.name.at, record.name.len);
+    let name = part(file, line.name.at, line.name.len);
     LineCard {
-        line: record.line,
+        line: line.line,
         name,
     }
 }
 
 // A state with its name, from its record.
-fn state_card<'a>(file: &'a [u8], record: StateRecord) -> StateCard<'a>
-    ensures { λ r. ⌜ stateValue r ≡ stateIn (now (file .entry)) «record» ⌝ }
+fn state_card<'a>(file: &'a [u8], state: StateRecord) -> StateCard<'a>
+    ensures { λ r. ⌜ stateValue r ≡ stateIn (now (file .entry)) state ⌝ }
 {
-    let name = part(file, record.name.at, record.name.len);
+    let name = part(file, state.name.at, state.name.len);
     StateCard {
-        state: record.state,
+        state: state.state,
         name,
     }
 }
@@ -78,14 +78,16 @@ impl<'a> Draft<'a> {
     pub fn states(&self) -> &'a [StateRecord]
         ensures { λ r. ⌜ now r ≡ now (self .entry) .states .now ⌝ }
     {
-        self.states
+        let states: &'a [StateRecord] = self.states;
+        states
     }
 
     // The moves, in their order.
     pub fn moves(&self) -> &'a [Move]
         ensures { λ r. ⌜ now r ≡ draftRule (now (self .entry)) .moves ⌝ }
     {
-        self.moves
+        let moves: &'a [Move] = self.moves;
+        moves
     }
 
     // The card with the number `i`: the lines come first, then the states, then the moves.

@@ -20,12 +20,33 @@ use crate::record::StateRecord;
 use crate::record::StateRecordPartialEq;
 use rules::Line;
 use rules::Move;
-use rules::MovePartialEq;
 use rules::State;
 
 // The file of the empty draft: six nameless lines of cost 1 and chance 0, one nameless start state, no moves.
 static EMPTY_FILE: [u8; 23] = [
-    1, 1, 0, 0, 1, 0, 0, 1, 0, 0, 1, 0, 0, 1, 0, 0, 1, 0, 0, 1, 1, 0, 0,
+    1,
+    1,
+    0,
+    0,
+    1,
+    0,
+    0,
+    1,
+    0,
+    0,
+    1,
+    0,
+    0,
+    1,
+    0,
+    0,
+    1,
+    0,
+    0,
+    1,
+    1,
+    0,
+    0,
 ];
 
 static EMPTY_STATES: [StateRecord; 1] = [StateRecord {
@@ -66,7 +87,7 @@ const EMPTY_LINES: [LineRecord; 6] = [
 ];
 
 // The draft of one nameless start state and no moves.
-pub fn empty_draft() -> Draft<'static>
+fn empty_draft() -> Draft<'static>
     ensures contents { λ r. ⌜ contentsOf r ≡ emptyContents ⌝ }
     ensures rule { λ r. ⌜ draftRule r ≡ emptyRule ⌝ }
 {
@@ -88,7 +109,7 @@ fn equal_states(a: StateRecord, b: StateRecord) -> bool
 fn equal_moves(a: Move, b: Move) -> bool
     ensures { λ r. ⌜ Decides r (a ≡ b) ⌝ }
 {
-    a == b
+    a.from == b.from && a.cell == b.cell && a.to == b.to
 }
 
 // Whether `states` begins with the state cards, which are good.

@@ -15,5 +15,5 @@ returns c = record {
   turns = cancel-events;
   straight = straight-events;
   composed = λ upper lower above below f g.
-    (compose-fits upper above lower below f g, compose-events upper above lower below (f .six) (f .named));
+      (compose-fits upper above lower below f g, compose-events upper above lower below (f .six) (f .named));
 }
