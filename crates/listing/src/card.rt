@@ -93,7 +93,11 @@ pub(crate) fn push_card(text: &mut String, i: usize, card: Card) -> Result<(), f
 }
 
 // Writes a refusal's line.
-pub(crate) fn push_refusal(text: &mut String, number: u8, place: Option<usize>) -> Result<(), fmt::Error>
+pub(crate) fn push_refusal(
+    text: &mut String,
+    number: u8,
+    place: Option<usize>,
+) -> Result<(), fmt::Error>
     ensures { λ r. ⌜ made r (λ _. string-bytes (now (text .exit)) ≡ string-bytes (now (text .entry)) ++ refusalText number place) ⌝ }
 {
     match place {

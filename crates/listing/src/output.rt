@@ -1,7 +1,11 @@
 // The program's output, from the bytes of its two files.
 ghost use mathlib.Core.List.{_++_};
 ghost use mathlib.Core.Path.{_≡_};
+ghost use mathlib.Core.Bool.{true};
 ghost use Prim.Native.Nat.{ℕ};
+ghost use lib.ListN.{length};
+ghost use Rattle.std.specs.Results.{isOk};
+ghost use Rattle.sources.specs.PlainLogs.{checkedLog};
 ghost use Rattle.std.specs.Of.String.{string-bytes};
 ghost use Rattle.std.specs.Options.{mapped};
 ghost use Rattle.std.specs.Vec.{made};
@@ -19,7 +23,10 @@ use rulefile::record::Name;
 use rulefile::record::StateRecord;
 use rules::Move;
 use rules::State;
+use sources::plain::PlainLog;
+use sources::plain::PlainLogSource;
 use sources::plain::check_log;
+use sources::source::drain;
 use std::alloc::Global;
 use std::fmt;
 
@@ -54,13 +61,21 @@ fn push_cards(text: &mut String, draft: &Draft) -> Result<(), fmt::Error>
     Ok(())
 }
 
-// Writes the rule's cards, and how many events the log has.
-fn push_contents(text: &mut String, draft: &Draft, events: usize) -> Result<(), fmt::Error>
+// Writes the rule's cards, and how many events there are.
+fn push_contents(text: &mut String, draft: &Draft, events: u64) -> Result<(), fmt::Error>
     ensures { λ r. ⌜ made r (λ _. string-bytes (now (text .exit)) ≡ string-bytes (now (text .entry)) ++ (cardsText 0 (cardsOf (draftRule (now (draft .entry)))) ++ eventsText events)) ⌝ }
 {
     push_cards(text, draft)?;
     writeln!(text, "events {events}")?;
     Ok(())
+}
+
+// How many events a log has that the check takes: it is opened as a plain log and played to its end.
+fn count_events(log: &[u8]) -> u64
+    ensures { λ r. ⌜ (isOk (checkedLog (now (log .entry))) ≡ true → r ≡ length (now (log .entry))) ⌝ }
+{
+    let mut source = PlainLog::over(log);
+    drain(&mut source)
 }
 
 // Writes what comes of a good rule and the log: the log's fault, or the rule and its events.
@@ -71,7 +86,7 @@ fn push_log(text: &mut String, draft: &Draft, log: Option<&[u8]>) -> Result<(), 
         return push_refusal(text, 24, None);
     };
     match check_log(log) {
-        Ok(()) => push_contents(text, draft, log.len()),
+        Ok(()) => push_contents(text, draft, count_events(log)),
         Err(fault) => {
             let report = fault.report();
             push_refusal(text, report.number, Some(report.place))

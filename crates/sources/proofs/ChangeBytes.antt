@@ -1,6 +1,6 @@
 -- A change log is taken exactly where its bytes are those of pairs in range, and refused for its leftmost fault.
 use mathlib.Core.Path.{_≡_, refl, sym, ap, subst, _∙_}
-use mathlib.Core.Bool.{Bool, true, false, cond}
+use mathlib.Core.Bool.{true}
 use mathlib.Core.List.{List, [], _∷_, _++_}
 use mathlib.Core.Logic.{⊎-elim}
 use Prim.Native.Nat.{ℕ, suc, zero, _+_, _-_, _<_, _≤_}
@@ -12,20 +12,17 @@ use Rattle.std.specs.Results.{Cases, isOk}
 use Rattle.std.specs.declared.result.Result.{Result}
 use Rattle.std.specs.declared.result.Result.the-variants.{Ok, Err}
 use Rattle.std.specs.shelf.Lists.{All}
-use Rattle.std.proofs.shelf.Lists.{append-nil, drop-all, length-append, length-drop}
+use Rattle.std.proofs.shelf.Lists.{append-nil, drop-all, length-drop}
 use Rattle.std.proofs.shelf.Tests.{cases-lt}
 use Rattle.codec.specs.declared.fault.CardFault.{CardFault}
 use Rattle.codec.specs.declared.fault.CardFault.the-variants as card
 use Rattle.codec.specs.declared.read.Read.{Read}
-use Rattle.codec.specs.Field.{fieldAt}
 use Rattle.codec.specs.Number.{encode, Octets}
-use Rattle.codec.specs.Steps.{andThen}
 use Rattle.codec.proofs.Fields.{ranged-sound, ranged-complete}
-use Rattle.codec.proofs.Numbers.{encode-some}
 use Rattle.codec.proofs.Spans.{Spans, join, split, span-end, span-none}
 use Rattle.codec.proofs.Steps.{inside-ok}
 use Rattle.sources.specs.declared.change.Pair.{Pair}
-use Rattle.sources.specs.ChangeLogs.{InRange, encodePair, encodePairs, pairAt, pairsWithin, pairsFrom, checkedPairs, IsChangeLog, LeftmostFault}
+use Rattle.sources.specs.ChangeLogs.{InRange, encodePair, encodePairs, pairAt, pairsFrom, checkedPairs, IsChangeLog, LeftmostFault}
 use Rattle.sources.specs.Small.{pair-parts}
 use Rattle.sources.proofs.Pairs.{pair-from, pushed, pairs-end, pairs-fault, pairs-more}
 
@@ -64,11 +61,11 @@ module _ (f : List ℕ) (octets : Octets f) where
       rw (c, d)
 
   -- the pairs up to the end
-  Sound : ℕ → Type 0
-  Sound p = (pairs : List Pair) → pairsFrom f p ≡ Ok pairs → p ≤ length f → All InRange pairs × Spans f p (encodePairs pairs) (length f)
+  Reads : ℕ → Type 0
+  Reads p = (pairs : List Pair) → pairsFrom f p ≡ Ok pairs → p ≤ length f → All InRange pairs × Spans f p (encodePairs pairs) (length f)
 
-  pairs-sound-step : (p : ℕ) → p < length f → ((q : ℕ) → p < q → Sound q) → Sound p
-  unfolding Sound
+  pairs-sound-step : (p : ℕ) → p < length f → ((q : ℕ) → p < q → Reads q) → Reads p
+  unfolding Reads
   pairs-sound-step p l later pairs h b = go (pairAt f p) refl
     where
       go : (r : Result (Read Pair) CardFault) → pairAt f p ≡ r → All InRange pairs × Spans f p (encodePairs pairs) (length f)
@@ -80,15 +77,15 @@ module _ (f : List ℕ) (octets : Octets f) where
           ((s .0, t .0), join f p (a .next) (length f) (encodePair (a .value)) (encodePairs (x .0)) (s .1) (t .1))
       go (Err d) e = ok-not-err pairs d (pairsFrom f p) h (pairs-fault f p d l e)
 
-  pairs-sound-end : (p : ℕ) → length f ≤ p → Sound p
-  unfolding Sound
+  pairs-sound-end : (p : ℕ) → length f ≤ p → Reads p
+  unfolding Reads
   pairs-sound-end p b pairs h l =
       let none : [] ≡ pairs = inside-ok (sym (pairs-end f p b) ∙ h) in
       let same : p ≡ length f = omega arith in
       subst (λ (ps : List Pair). All InRange ps × Spans f p (encodePairs ps) (length f)) none
       (tt, subst (λ (q : ℕ). Spans f p [] q) same (span-none f p l))
 
-  pairs-sound-within : (k p : ℕ) → length f ≤ p + k → Sound p
+  pairs-sound-within : (k p : ℕ) → length f ≤ p + k → Reads p
   pairs-sound-within zero p b = pairs-sound-end p (omega arith)
   pairs-sound-within (suc k) p b =
       ⊎-elim (λ l. pairs-sound-step p l (λ q m. pairs-sound-within k q (omega arith))) (λ l. pairs-sound-end p l) (cases-lt p (length f))
@@ -103,12 +100,12 @@ module _ (f : List ℕ) (octets : Octets f) where
       pairs-more f p _ e ∙ ap (pushed pair) (pairs-complete pairs q (r .1) (t .0 .inside) (t .1))
 
   -- the leftmost fault, from a place on
-  Left : ℕ → Type 0
-  Left p = (fault : CardFault) → pairsFrom f p ≡ Err fault → p ≤ length f
+  HasFault : ℕ → Type 0
+  HasFault p = (fault : CardFault) → pairsFrom f p ≡ Err fault → p ≤ length f
       → (pairs : List Pair) × (q : ℕ) × All InRange pairs × Spans f p (encodePairs pairs) q × (q < length f) × (pairAt f q ≡ Err fault)
 
-  left-step : (p : ℕ) → p < length f → ((q : ℕ) → p < q → Left q) → Left p
-  unfolding Left
+  left-step : (p : ℕ) → p < length f → ((q : ℕ) → p < q → HasFault q) → HasFault p
+  unfolding HasFault
   left-step p l later fault h b = go (pairAt f p) refl
     where
       go : (r : Result (Read Pair) CardFault) → pairAt f p ≡ r
@@ -119,11 +116,11 @@ module _ (f : List ℕ) (octets : Octets f) where
           (a .value ∷ x .0, x .1, (s .0, x .2), join f p (a .next) (x .1) (encodePair (a .value)) (encodePairs (x .0)) (s .1) (x .3), x .4, x .5)
       go (Err d) e = ([], p, tt, span-none f p b, l, e ∙ ap Err (inside-err (sym (pairs-fault f p d l e) ∙ h)))
 
-  left-end : (p : ℕ) → length f ≤ p → Left p
-  unfolding Left
+  left-end : (p : ℕ) → length f ≤ p → HasFault p
+  unfolding HasFault
   left-end p b fault h l = ok-not-err [] fault (pairsFrom f p) (pairs-end f p b) h
 
-  left-within : (k p : ℕ) → length f ≤ p + k → Left p
+  left-within : (k p : ℕ) → length f ≤ p + k → HasFault p
   left-within zero p b = left-end p (omega arith)
   left-within (suc k) p b =
       ⊎-elim (λ l. left-step p l (λ q m. left-within k q (omega arith))) (λ l. left-end p l) (cases-lt p (length f))
@@ -140,14 +137,14 @@ module _ (f : List ℕ) (octets : Octets f) where
 
   -- what is read of a whole log
   pub log-sound : (pairs : List Pair) → pairsFrom f 0 ≡ Ok pairs → All InRange pairs × (f ≡ encodePairs pairs)
-  unfolding Sound
+  unfolding Reads
   log-sound pairs h = let s = pairs-sound-within (length f) 0 (omega arith) pairs h (omega arith) in (s .0, whole-bytes (encodePairs pairs) (s .1))
 
   pub log-complete : (pairs : List Pair) → All InRange pairs → f ≡ encodePairs pairs → pairsFrom f 0 ≡ Ok pairs
   log-complete pairs r e = pairs-complete pairs 0 r (omega arith) (bytes-whole (encodePairs pairs) e)
 
   pub log-left : (fault : CardFault) → pairsFrom f 0 ≡ Err fault → LeftmostFault f fault
-  unfolding Left
+  unfolding HasFault
   log-left fault h =
       let x = left-within (length f) 0 (omega arith) fault h (omega arith) in
       let q : x .1 ≡ length (encodePairs (x .0)) = span-end f 0 (x .1) (encodePairs (x .0)) (omega arith) (x .3) ∙ zero-add _ in
@@ -174,11 +171,11 @@ check-more f p a e = ap checkedPairs (pairs-more f p a (sym e)) ∙ checked-push
 
 -- taken exactly where the bytes are those of pairs in range
 pub changes-exact : (f : List ℕ) (r : Result (Unit {0}) CardFault) → Octets f → r ≡ checkedPairs (pairsFrom f 0) → Decides (isOk r) (IsChangeLog f)
-changes-exact f r octets e = (sound (pairsFrom f 0) refl, complete)
+changes-exact f r octets e = (taken (pairsFrom f 0) refl, complete)
   where
-    sound : (x : Result (List Pair) CardFault) → pairsFrom f 0 ≡ x → isOk r ≡ true → IsChangeLog f
-    sound (Ok pairs) h t = let s = log-sound f octets pairs h in (pairs, s .0, s .1)
-    sound (Err fault) h t =
+    taken : (x : Result (List Pair) CardFault) → pairsFrom f 0 ≡ x → isOk r ≡ true → IsChangeLog f
+    taken (Ok pairs) h t = let s = log-sound f octets pairs h in (pairs, s .0, s .1)
+    taken (Err fault) h t =
         let z : r ≡ Err fault = e ∙ ap checkedPairs h in
         let b = ap isOk z in
         let n : _≡_ {A = ℕ} 0 1 = cc in absurd (omega arith)

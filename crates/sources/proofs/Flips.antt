@@ -1,9 +1,8 @@
 -- What turning lines over does to each line.
-use Prim.Native.Nat.{ℕ, zero, suc, _/_, _%_, _^_, _<_, _≤_}
+use Prim.Native.Nat.{ℕ, zero, suc, _/_, _%_, _^_, _<_}
 use native.Mathlib.Nat.{mod-lt}
 use native.Mathlib.Omega.{arith}
-use mathlib.Core.Path.{_≡_, refl, sym, ap, _∙_}
-use mathlib.Core.Bool.{Bool, true, false}
+use mathlib.Core.Path.{_≡_, refl, ap, _∙_}
 use lib.Bits.{bitXor, xor-assoc, xor-self, xor-zero-r}
 use lib.Dec.{eqb}
 use Rattle.std.proofs.shelf.Bits.{xor-shr, xor-mod}

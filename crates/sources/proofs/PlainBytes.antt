@@ -1,6 +1,5 @@
 -- A plain log is taken exactly where each byte is an event.
-use Prim.Native.Nat.{ℕ, zero, suc, _+_, _<_, _≤_}
-use native.Mathlib.Omega.{arith}
+use Prim.Native.Nat.{ℕ, _+_, _<_, _≤_}
 use mathlib.Core.Path.{_≡_, refl, sym, ap, _∙_}
 use mathlib.Core.Bool.{Bool, true, false, cond}
 use mathlib.Core.List.{List, [], _∷_}
@@ -10,13 +9,12 @@ use Rattle.std.specs.Orderings.{Decides}
 use Rattle.std.specs.Results.{isOk}
 use Rattle.std.specs.declared.result.Result.{Result}
 use Rattle.std.specs.declared.result.Result.the-variants.{Ok, Err}
-use Rattle.std.specs.shelf.Lists.{All}
 use Rattle.std.proofs.shelf.Elements.{all-getD}
 use Rattle.std.proofs.shelf.Lists.{drop-more, drop-all}
-use Rattle.std.proofs.shelf.Tests.{lt-ltb, le-ltb, ltb-true, both-ways, cases-bool}
+use Rattle.std.proofs.shelf.Tests.{lt-ltb, ltb-true, both-ways}
 use Rattle.codec.specs.declared.fault.CardFault.{CardFault}
 use Rattle.codec.specs.declared.fault.CardFault.the-variants.{Range}
-use Rattle.sources.specs.PlainLogs.{logFrom, plainEvents}
+use Rattle.sources.specs.PlainLogs.{logFrom}
 use Rattle.sources.specs.Waiting.{AllEvents}
 
 -- a byte that is no event is the fault
@@ -58,10 +56,3 @@ log-exact-at bytes r e = rw e (log-exact bytes)
 -- each byte of a log that is taken
 pub taken-getD : (bytes : List ℕ) → AllEvents bytes → (k : ℕ) → k < length bytes → getD bytes k 0 < 64
 taken-getD bytes h k l = all-getD (λ byte. byte < 64) bytes k 0 l h
-
--- what the log of these bytes is
-pub taken-is : (bytes : List ℕ) (r : Result (Unit {0}) CardFault) → r ≡ logFrom 0 bytes → isOk r ≡ true → bytes ≡ plainEvents bytes
-taken-is bytes r e t = let t′ = ap isOk (sym e) ∙ t in rw t′
-
-pub refused-is : (bytes : List ℕ) (r : Result (Unit {0}) CardFault) → r ≡ logFrom 0 bytes → isOk r ≡ false → [] ≡ plainEvents bytes
-refused-is bytes r e t = let t′ = ap isOk (sym e) ∙ t in rw t′

@@ -1,11 +1,10 @@
 -- A change log is played run by run: the run of the next pair, and the run behind its first event.
 use mathlib.Core.Path.{_≡_, refl, sym, ap, subst, _∙_}
-use mathlib.Core.Bool.{Bool, true, false, cond}
+use mathlib.Core.Bool.{true, false}
 use mathlib.Core.List.{List, [], _∷_, _++_}
 use mathlib.Core.Logic.{⊎-elim}
 use Prim.Native.Nat.{ℕ, suc, zero, _+_, _-_, _<_, _≤_}
 use native.Mathlib.Omega.{arith}
-use lib.Bits.{bitXor}
 use lib.Dec.{ltb}
 use lib.ListN.{length, replicate}
 use Rattle.std.specs.Results.{isOk}
@@ -27,13 +26,13 @@ use Rattle.sources.proofs.ChangeBytes.{log-complete}
 use Rattle.sources.proofs.Pairs.{pushed, pairs-end, pairs-fault, pairs-more}
 
 -- what a change log keeps true of its run
-pub record Sound (f : List ℕ) (run : Run) : Type 0 where
+pub record Playable (f : List ℕ) (run : Run) : Type 0 where
   pub small : run .current < 64
   pub whole : isOk (pairsFrom f (run .next)) ≡ true
   pub ready : run .left ≡ 0 → length f ≤ run .next
 
-pub is-sound : {f : List ℕ} {run : Run} → run .current < 64 → isOk (pairsFrom f (run .next)) ≡ true → (run .left ≡ 0 → length f ≤ run .next) → Sound f run
-is-sound a b c = record { small = a; whole = b; ready = c }
+pub can-play : {f : List ℕ} {run : Run} → run .current < 64 → isOk (pairsFrom f (run .next)) ≡ true → (run .left ≡ 0 → length f ≤ run .next) → Playable f run
+can-play a b c = record { small = a; whole = b; ready = c }
 
 pushed-whole : (pair : Pair) (r : Result (List Pair) CardFault) → isOk (pushed pair r) ≡ true → (isOk r ≡ true) × (pairsOr (pushed pair r) ≡ pair ∷ pairsOr r)
 pushed-whole pair (Ok pairs) h = (refl, refl)
@@ -46,10 +45,10 @@ module _ (f : List ℕ) (p : ℕ) (whole : isOk (pairsFrom f p) ≡ true) where
   at-end : (fault : CardFault) → pairAt f p ≡ Err fault → length f ≤ p
   at-end fault e = ⊎-elim (λ l. absurd (both-ways _ (ap isOk (pairs-fault f p fault l e)) whole)) (λ l. l) (cases-lt p (length f))
 
-  pub next-sound : (event : ℕ) → event < 64 → Sound f (runOf p event (pairAt f p))
+  pub next-sound : (event : ℕ) → event < 64 → Playable f (runOf p event (pairAt f p))
   next-sound event small = go (pairAt f p) refl
     where
-      go : (r : Result (Read Pair) CardFault) → pairAt f p ≡ r → Sound f (runOf p event r)
+      go : (r : Result (Read Pair) CardFault) → pairAt f p ≡ r → Playable f (runOf p event r)
       go (Ok a) e =
           let range = pair-range f p a e in
           record {
@@ -79,7 +78,7 @@ later-some : (n event : ℕ) (later : List ℕ) → 0 < n → replicate (n - 1) 
 later-some zero event later h = absurd (omega arith)
 later-some (suc n) event later h = let e : suc n - 1 ≡ n = omega arith in rw e
 
-module _ (f : List ℕ) (run : Run) (sound : Sound f run) where
+module _ (f : List ℕ) (run : Run) (sound : Playable f run) where
   -- the run is over only where the log is
   none-left : run .left ≡ 0 → playedFrom f run ≡ []
   none-left z = let e = pairs-end f (run .next) (sound .ready z) in rw (z, e)
@@ -93,9 +92,9 @@ module _ (f : List ℕ) (run : Run) (sound : Sound f run) where
   pub first-left : 0 < run .left → Some (run .current) ≡ firstOf (playedFrom f run)
   first-left h = first-some (run .left) (run .current) _ h
 
-  pub after-sound : Sound f (runAfter f run)
+  pub after-sound : Playable f (runAfter f run)
   after-sound =
-      cond-both (ltb 1 (run .left)) _ _ (Sound f)
+      cond-both (ltb 1 (run .left)) _ _ (Playable f)
       (λ e. let l = ltb-true 1 (run .left) e in record { small = sound .small; whole = sound .whole; ready = λ z. absurd (omega arith) })
       (λ _. next-sound f (run .next) (sound .whole) (run .current) (sound .small))
 
@@ -123,8 +122,8 @@ none-from fault (Ok pairs) h = let z : _≡_ {A = ℕ} 0 1 = cc in absurd (omega
 none-from fault (Err e) h = refl
 
 module _ (f : List ℕ) where
-  pub begin-sound : (run : Run) → Ok tt ≡ checkedPairs (pairsFrom f 0) → run ≡ runOf 0 0 (pairAt f 0) → Sound f run
-  begin-sound run h e = subst (Sound f) (sym e) (next-sound f 0 (whole-from (pairsFrom f 0) h) 0 (omega arith))
+  pub begin-sound : (run : Run) → Ok tt ≡ checkedPairs (pairsFrom f 0) → run ≡ runOf 0 0 (pairAt f 0) → Playable f run
+  begin-sound run h e = subst (Playable f) (sym e) (next-sound f 0 (whole-from (pairsFrom f 0) h) 0 (omega arith))
 
   pub begin-plays : (run : Run) → Ok tt ≡ checkedPairs (pairsFrom f 0) → run ≡ runOf 0 0 (pairAt f 0) → playedFrom f run ≡ changeEvents f
   begin-plays run h e = ap (playedFrom f) e ∙ next-plays f 0 (whole-from (pairsFrom f 0) h) 0
@@ -137,5 +136,5 @@ module _ (f : List ℕ) where
   pub plays-pairs : (events : List ℕ) → Octets f → events ≡ changeEvents f → (pairs : List Pair) → All InRange pairs → f ≡ encodePairs pairs → events ≡ expand 0 pairs
   plays-pairs events octets e pairs r b = e ∙ ap (λ (r : Result (List Pair) CardFault). expand 0 (pairsOr r)) (log-complete f octets pairs r b)
 
-pub empty-sound : Sound [] (record { next = 0; current = 0; left = 0 })
+pub empty-sound : Playable [] (record { next = 0; current = 0; left = 0 })
 empty-sound = record { small = omega arith; whole = ap isOk (pairs-end [] 0 (omega arith)); ready = λ _. omega arith }

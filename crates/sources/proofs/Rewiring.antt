@@ -1,20 +1,18 @@
 -- Each line of an event through a wiring, and what follows of whole events.
 use Prim.Native.Nat.{ℕ, zero, suc, _+_, _<_, _≤_}
 use native.Mathlib.Omega.{arith}
-use mathlib.Core.Path.{_≡_, refl, sym, ap, ap₂, subst, _∙_}
-use mathlib.Core.Bool.{Bool, true, false, cond, _&&_}
-use mathlib.Core.List.{List, [], _∷_, map}
+use mathlib.Core.Path.{_≡_, refl, sym, ap, ap₂, _∙_}
+use mathlib.Core.Bool.{Bool, true, false, cond}
+use mathlib.Core.List.{List, [], _∷_}
 use lib.Dec.{ltb}
 use lib.ListN.{length, drop, getD}
 use Rattle.std.specs.Orderings.{Decides}
 use Rattle.std.specs.Results.{isOk}
-use Rattle.std.specs.declared.option.Option.{Option}
-use Rattle.std.specs.declared.option.Option.the-variants.{Some, None}
 use Rattle.std.specs.declared.result.Result.{Result}
 use Rattle.std.specs.declared.result.Result.the-variants.{Ok, Err}
 use Rattle.std.proofs.shelf.Lists.{drop-more, drop-all, getD-map, length-map}
-use Rattle.std.proofs.shelf.Tests.{lt-ltb, ltb-true, and-from, and-parts, both-ways}
-use Rattle.events.specs.Sets.{has, setOf}
+use Rattle.std.proofs.shelf.Tests.{lt-ltb, ltb-true, and-from, and-parts}
+use Rattle.events.specs.Sets.{has}
 use Rattle.events.proofs.SetLaws.{has-none, has-setOf, setOf-small, same-mask}
 use Rattle.sources.specs.declared.source.SourceRefusal.{SourceRefusal}
 use Rattle.sources.specs.declared.source.SourceRefusal.the-variants.{NothingWaiting}

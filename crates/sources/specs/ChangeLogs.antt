@@ -1,7 +1,7 @@
 -- What a change log is: pairs of numbers, each a count and the lines that are turned over before it.
 use Prim.Native.Nat.{ℕ, zero, suc, _-_, _<_, _≤_}
 use mathlib.Core.Path.{_≡_}
-use mathlib.Core.Bool.{Bool, cond}
+use mathlib.Core.Bool.{cond}
 use mathlib.Core.List.{List, [], _∷_, _++_}
 use lib.Bits.{bitXor}
 use lib.Dec.{leb, ltb}
@@ -61,7 +61,7 @@ pairsWithin (suc most) bytes place =
     andThen (λ e. e) (pairsWithin most bytes (pair .next)) (λ pairs.
     Ok (pair .value ∷ pairs))))
 
--- the pairs from a place on: there are no more than bytes
+-- the pairs from a place on: there are never more pairs than bytes
 abbrev pub pairsFrom : List ℕ → ℕ → Result (List Pair) CardFault
 pairsFrom bytes place = pairsWithin (length bytes) bytes place
 

@@ -1,9 +1,9 @@
 -- That what each source means is a list of events, numbers below 64: a source gives this proof with its list. Lemmas, and no definitions that a contract is read by.
-use Prim.Native.Nat.{ℕ, zero, suc, _^_, _<_, _≤_}
+use Prim.Native.Nat.{ℕ, zero, suc, _<_, _≤_}
 use native.Mathlib.Omega.{arith}
 use mathlib.Core.Path.{_≡_, refl, ap}
 use mathlib.Core.Bool.{Bool, true, false, cond, _||_}
-use mathlib.Core.List.{List, [], _∷_, _++_}
+use mathlib.Core.List.{List, [], _∷_}
 use lib.Bits.{bitXor}
 use lib.Dec.{leb, ltb}
 use lib.ListN.{length, getD, drop, replicate}

@@ -2,7 +2,7 @@
 ghost use mathlib.Core.Bool.{true};
 ghost use mathlib.Core.List.{List};
 ghost use mathlib.Core.Path.{_≡_};
-ghost use Prim.Native.Nat.{ℕ, _-_, _<_, _≤_};
+ghost use Prim.Native.Nat.{_<_, _≤_};
 ghost use denote.Ref.{now};
 ghost use lib.ListN.{length};
 ghost use Rattle.std.specs.Orderings.{Decides};
@@ -88,6 +88,13 @@ fn next_run(bytes: &[u8], at: usize, event: u8) -> Run
     }
 }
 
+// The run that a log begins with: that of its first pair, behind the event with every line off.
+fn first_run(bytes: &[u8]) -> Run
+    ensures { λ r. ⌜ r ≡ runOf 0 0 (pairAt (now (bytes .entry)) 0) ⌝ }
+{
+    next_run(bytes, 0, 0)
+}
+
 // What a run leaves once its event came: one less, or the run of the next pair.
 fn run_after(bytes: &[u8], run: Run) -> Run
     ensures { λ r. ⌜ r ≡ runAfter (now (bytes .entry)) run ⌝ }
@@ -121,7 +128,7 @@ impl<'a> ChangeLog<'a> {
         match check_changes(bytes) {
             Ok(()) => ChangeLog {
                 bytes,
-                run: next_run(bytes, 0, 0),
+                run: first_run(bytes),
             },
             Err(_) => ChangeLog {
                 bytes: &[],

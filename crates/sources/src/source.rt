@@ -1,7 +1,8 @@
 // A line source: a list of events still to come, seen through polls of single lines.
-ghost use mathlib.Core.List.{List};
+ghost use mathlib.Core.List.{List, []};
 ghost use mathlib.Core.Path.{_≡_};
-ghost use Prim.Native.Nat.{ℕ};
+ghost use Prim.Native.Nat.{ℕ, _-_, _^_, min};
+ghost use lib.ListN.{length};
 ghost use denote.Ref.{now};
 ghost use Rattle.events.specs.Sets.{has};
 ghost use Rattle.sources.specs.Waiting.{AllEvents, anyWaiting, dropped, firstOf, laterOf, orNothing, polled, sourceNumber};
@@ -84,4 +85,17 @@ pub fn first_event<S: LineSource>(source: &S) -> Result<u8, SourceRefusal>
         }
     }
     Ok(event)
+}
+
+// Lets every event of a source go, and tells how many there were; a count past 2^64 - 1 is told as that number.
+pub fn drain<S: LineSource>(source: &mut S) -> u64
+    ensures count { λ r. ⌜ r ≡ min (length (S·LineSource .events (now (source .entry)))) (2 ^ 64 - 1) ⌝ }
+    ensures after { λ _. ⌜ S·LineSource .events (now (source .exit)) ≡ [] ⌝ }
+{
+    let mut count = 0u64;
+    while (*source).waiting() {
+        let _ = (*source).drop_first();
+        count = count.saturating_add(1);
+    }
+    count
 }

@@ -1,7 +1,6 @@
 // A wiring over any source: each line is one of the lines below, turned over or not.
 ghost use mathlib.Core.Path.{_≡_};
 ghost use Prim.Native.Nat.{ℕ, _<_};
-ghost use denote.Ref.{now};
 ghost use lib.Dec.{ltb};
 ghost use lib.ListN.{getD};
 ghost use Rattle.std.specs.Orderings.{Decides};

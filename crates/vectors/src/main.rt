@@ -1,7 +1,9 @@
 // Runs files of expected answers, each line through the public calls, and prints how many agree. A file that is not there is passed over.
+mod changes;
 mod hex;
 mod reader;
 
+use changes::change_answer;
 use reader::reader_answer;
 use std::fs;
 use std::io;
@@ -10,18 +12,18 @@ use std::io;
 #[derive(Clone, Copy)]
 enum Kind {
     Reader,
+    Changes,
 }
 
 // Whether the last field of a line is the answer to the fields before it.
 fn agrees(rt: &LibcRuntime, kind: Kind, line: &str) -> Option<bool> {
     let mut fields = line.split('\t');
-    match kind {
-        Kind::Reader => {
-            let bytes = hex::bytes_of(rt.alloc(), fields.next()?)?;
-            let answer = reader_answer(rt.alloc(), bytes.as_slice()).ok()?;
-            Some(answer.as_str() == fields.next()?)
-        }
-    }
+    let bytes = hex::bytes_of(rt.alloc(), fields.next()?)?;
+    let answer = match kind {
+        Kind::Reader => reader_answer(rt.alloc(), bytes.as_slice()).ok()?,
+        Kind::Changes => change_answer(rt.alloc(), bytes.as_slice())?,
+    };
+    Some(answer.as_str() == fields.next()?)
 }
 
 // Prints each line that differs, and how many agree and differ.
@@ -43,5 +45,6 @@ fn run(rt: &LibcRuntime, file: &str, kind: Kind) -> io::Result<()> {
 }
 
 fn main(rt: LibcRuntime) -> io::Result<()> {
-    run(&rt, "reader.tsv", Kind::Reader)
+    run(&rt, "reader.tsv", Kind::Reader)?;
+    run(&rt, "changelog.tsv", Kind::Changes)
 }

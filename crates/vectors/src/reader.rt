@@ -41,7 +41,7 @@ pub(crate) fn layer_word(layer: Layer) -> &'static str
 }
 
 // A fault's number, place and layer.
-fn fault_answer(heap: Global, report: Report) -> Result<String, AllocError>
+pub(crate) fn fault_answer(heap: Global, report: Report) -> Result<String, AllocError>
     ensures { λ r. ⌜ made r (λ s. string-bytes s ≡ reportText report) ⌝ }
 {
     let word = layer_word(report.layer);

@@ -177,13 +177,19 @@ mod tests {
         Ok(text)
     }
 
+    // A version that there is not.
     #[test]
-    fn damaged_rules(rt: LibcRuntime) -> Result<(), Fail> {
-        let mut damaged = RULE;
-        damaged[32] = 4;
-        let moved = printed(&rt, Some(&damaged), None)?;
-        check_eq(moved.as_str(), "refused 13 at 32\n")?;
-        let cut = printed(&rt, Some(&RULE[0..9]), None)?;
+    fn other_version(rt: LibcRuntime) -> Result<(), Fail> {
+        let front = [2, 10, 20];
+        let other = printed(&rt, Some(&front), None)?;
+        check_eq(other.as_str(), "refused 13 at 0\n")
+    }
+
+    // The first line cards and no more.
+    #[test]
+    fn cut_rule(rt: LibcRuntime) -> Result<(), Fail> {
+        let front = [1, 10, 20, 1, 97, 5, 50, 1, 98];
+        let cut = printed(&rt, Some(&front), None)?;
         check_eq(cut.as_str(), "refused 11 at 9\n")
     }
 

@@ -1,6 +1,5 @@
 -- Each turn adds one line.
 use native.Mathlib.Omega.{arith}
-use Prim.Native.Nat.{ℕ}
 use mathlib.Core.Path.{_≡_, _∙_, ap}
 use Rattle.sources.specs.Waiting.{firstOf}
 use Rattle.sources.proofs.Gather.{linesBelow, more-on, more-off, polled-some, none-yet, all-lines}
