@@ -2,28 +2,41 @@
 mod changes;
 mod hex;
 mod reader;
+mod trees;
 
 use changes::change_answer;
 use reader::reader_answer;
 use std::fs;
 use std::io;
+use trees::tree_answer;
 
 // Which file of expected answers: what its lines hold, and how they are run.
 #[derive(Clone, Copy)]
 enum Kind {
     Reader,
     Changes,
+    Trees,
 }
 
-// Whether the last field of a line is the answer to the fields before it.
+// Whether the last fields of a line are the answer to those before them.
 fn agrees(rt: &LibcRuntime, kind: Kind, line: &str) -> Option<bool> {
-    let mut fields = line.split('\t');
-    let bytes = hex::bytes_of(rt.alloc(), fields.next()?)?;
-    let answer = match kind {
-        Kind::Reader => reader_answer(rt.alloc(), bytes.as_slice()).ok()?,
-        Kind::Changes => change_answer(rt.alloc(), bytes.as_slice())?,
-    };
-    Some(answer.as_str() == fields.next()?)
+    let (file, rest) = line.split_once('\t')?;
+    let bytes = hex::bytes_of(rt.alloc(), file)?;
+    match kind {
+        Kind::Reader => {
+            let answer = reader_answer(rt.alloc(), bytes.as_slice()).ok()?;
+            Some(answer.as_str() == rest)
+        }
+        Kind::Changes => {
+            let answer = change_answer(rt.alloc(), bytes.as_slice())?;
+            Some(answer.as_str() == rest)
+        }
+        Kind::Trees => {
+            let (measure, wanted) = rest.split_once('\t')?;
+            let answer = tree_answer(rt.alloc(), bytes.as_slice(), measure)?;
+            Some(answer.as_str() == wanted)
+        }
+    }
 }
 
 // Prints each line that differs, and how many agree and differ.
@@ -46,5 +59,6 @@ fn run(rt: &LibcRuntime, file: &str, kind: Kind) -> io::Result<()> {
 
 fn main(rt: LibcRuntime) -> io::Result<()> {
     run(&rt, "reader.tsv", Kind::Reader)?;
-    run(&rt, "changelog.tsv", Kind::Changes)
+    run(&rt, "changelog.tsv", Kind::Changes)?;
+    run(&rt, "trees.tsv", Kind::Trees)
 }

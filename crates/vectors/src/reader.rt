@@ -15,7 +15,7 @@ use rules::State;
 use std::alloc::AllocError;
 use std::alloc::Global;
 
-const NO_STATE: StateRecord = StateRecord {
+pub(crate) const NO_STATE: StateRecord = StateRecord {
     state: State {
         start: false,
         accepting: false,
@@ -23,7 +23,7 @@ const NO_STATE: StateRecord = StateRecord {
     name: Name { at: 0, len: 0 },
 };
 
-const NO_MOVE: Move = Move {
+pub(crate) const NO_MOVE: Move = Move {
     from: 0,
     cell: 0,
     to: 0,

@@ -1,4 +1,6 @@
 // The worked cases, as tests: numbers, cells, the worked rule whole and damaged, the lent lists and the making, and what the program prints.
+#[cfg(test)]
+mod small;
 
 #[cfg(test)]
 mod tests {
@@ -71,6 +73,12 @@ mod tests {
         27,
         3,
     ];
+
+    // A version that there is not.
+    const OTHER_VERSION: [u8; 3] = [2, 10, 20];
+
+    // Two line cards and no more.
+    const TWO_LINES: [u8; 9] = [1, 10, 20, 1, 97, 5, 50, 1, 98];
 
     const NO_STATE: StateRecord = StateRecord {
         state: State {
@@ -177,19 +185,15 @@ mod tests {
         Ok(text)
     }
 
-    // A version that there is not.
     #[test]
     fn other_version(rt: LibcRuntime) -> Result<(), Fail> {
-        let front = [2, 10, 20];
-        let other = printed(&rt, Some(&front), None)?;
+        let other = printed(&rt, Some(&OTHER_VERSION), None)?;
         check_eq(other.as_str(), "refused 13 at 0\n")
     }
 
-    // The first line cards and no more.
     #[test]
     fn cut_rule(rt: LibcRuntime) -> Result<(), Fail> {
-        let front = [1, 10, 20, 1, 97, 5, 50, 1, 98];
-        let cut = printed(&rt, Some(&front), None)?;
+        let cut = printed(&rt, Some(&TWO_LINES), None)?;
         check_eq(cut.as_str(), "refused 11 at 9\n")
     }
 

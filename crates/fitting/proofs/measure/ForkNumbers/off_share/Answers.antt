@@ -1,0 +1,14 @@
+-- The product fits, since the whole price is small.
+use native.Mathlib.Omega.{arith}
+use mathlib.Core.Path.{refl}
+use mir.Facts.{fits-below}
+use Rattle.rules.specs.trees.Costs.{expected}
+use Rattle.rules.proofs.trees.MeasureLaws.{expected-lawful}
+use Rattle.fitting.proofs.Prices.{price-small}
+use Rattle.fitting.proofs.measure.ForkNumbers.off_share.Needs as need
+
+pub mul-result : need.mul-result
+mul-result c = let w = price-small expected expected-lawful (c .args .self .now) in fits-below {n = 6000000000000000} tt (omega arith)
+
+pub returns : need.returns
+returns c = let w = price-small expected expected-lawful (c .args .self .now) in record { is = refl; small = omega arith }
