@@ -76,7 +76,7 @@ pub record Begun (price : Price) (rule : Rule) (before after : List Node) (costs
   pub no-cost : (k : ℕ) → q ≤ k → getD costs k 0 ≡ 0
   pub no-top : (k : ℕ) → q ≤ k → getD tops k 0 ≡ 0
 
-zeros : (n k : ℕ) → _≡_ {A = ℕ} (getD (replicate n 0) k 0) 0
+pub zeros : (n k : ℕ) → _≡_ {A = ℕ} (getD (replicate n 0) k 0) 0
 zeros n k = go (cases-lt k n)
   where
     go : (k < n) ⊎ (n ≤ k) → _≡_ {A = ℕ} (getD (replicate n 0) k 0) 0

@@ -10,3 +10,6 @@ pub mod Layouts
 pub mod AllStates
 pub mod DraftLines
 pub mod Fronts
+pub mod ReadLaws
+pub mod OneState
+pub mod PlanLaws

@@ -3,6 +3,7 @@ mod best;
 mod cells;
 pub mod fit;
 mod measure;
+pub mod plan;
 mod state;
 mod tree;
 
