@@ -1,6 +1,8 @@
 // The worked cases, as tests: numbers, cells, the worked rule whole and damaged, the lent lists and the making, and what the program prints.
 #[cfg(test)]
 mod small;
+#[cfg(test)]
+mod trees;
 
 #[cfg(test)]
 mod tests {
@@ -18,7 +20,7 @@ mod tests {
     use std::test::*;
 
     // The worked rule: three named lines and three nameless ones, four states and seven moves.
-    const RULE: [u8; 53] = [
+    pub(crate) const RULE: [u8; 53] = [
         1,
         10,
         20,
@@ -80,7 +82,7 @@ mod tests {
     // Two line cards and no more.
     const TWO_LINES: [u8; 9] = [1, 10, 20, 1, 97, 5, 50, 1, 98];
 
-    const NO_STATE: StateRecord = StateRecord {
+    pub(crate) const NO_STATE: StateRecord = StateRecord {
         state: State {
             start: false,
             accepting: false,
@@ -88,7 +90,7 @@ mod tests {
         name: Name { at: 0, len: 0 },
     };
 
-    const NO_MOVE: Move = Move {
+    pub(crate) const NO_MOVE: Move = Move {
         from: 0,
         cell: 0,
         to: 0,
