@@ -5,3 +5,4 @@ pub mod LoopLaws
 pub mod LiveLaws
 pub mod SafeLaws
 pub mod SelectLaws
+pub mod GatherLaws

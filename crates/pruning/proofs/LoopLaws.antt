@@ -1,4 +1,4 @@
--- The steps of the loops that gather sets of states and events, and of the one that writes the 64 sets.
+-- The steps of the loops that gather sets of states and events.
 use Prim.Native.Nat.{ℕ, zero, suc, _+_, _^_, _<_, _≤_}
 use native.Mathlib.Numerals.{add-one}
 use native.Mathlib.Omega.{arith}
@@ -6,14 +6,13 @@ use mathlib.Core.Bool.{Bool, true, false, cond, _&&_, _||_}
 use mathlib.Core.List.{List, [], _∷_, _++_}
 use mathlib.Core.Logic.{_⊎_, inl, inr}
 use mathlib.Core.Path.{_≡_, refl, sym, ap, ap₂, subst, _∙_}
-use borrow.Author.Count.{below-more}
 use lib.Bits.{bitOr, or-lt}
-use lib.Dec.{eqb}
+use lib.Dec.{eqb, ltb}
 use lib.ListN.{length, getD, take, set, replicate, length-set}
 use lib.Seq.{getD-set-same, getD-set-other}
 use Rattle.std.proofs.shelf.Bits.{pow-below, pow-pos}
 use Rattle.std.proofs.shelf.Lists.{take-more, take-all}
-use Rattle.std.proofs.shelf.Tests.{cases-eq, eq-eqb, ne-eqb}
+use Rattle.std.proofs.shelf.Tests.{cases-eq, eq-eqb, ne-eqb, lt-ltb}
 use Rattle.events.specs.Cells.{covers}
 use Rattle.events.specs.Sets.{has, setOf}
 use Rattle.events.proofs.SetLaws.{has-or, has-one, has-none, has-setOf, same-mask, setOf-small}
@@ -133,6 +132,10 @@ covered-push (x ∷ xs) m q states e =
     ap (λ (b : Bool). (Goes x q states && covers (x .cell) e) || b) (covered-push xs m q states e)
     ∙ or-assoc (Goes x q states && covers (x .cell) e) (covered xs q states e) (Goes m q states && covers (m .cell) e)
 
+-- a cell's own test holds
+pub in-cell : (cell events : ℕ) → cell < 729 → ((e : ℕ) → e < 64 → has events e ≡ (ltb cell 729 && covers cell e)) → (e : ℕ) → e < 64 → has events e ≡ covers cell e
+in-cell cell events l h e le = h e le ∙ ap (λ (b : Bool). b && covers cell e) (lt-ltb cell 729 l)
+
 -- the events are those that the first moves cover
 abbrev pub Covering : List Move → ℕ → ℕ → ℕ → Type 0
 Covering moves q states events = (events < 2 ^ 64) × ((e : ℕ) → e < 64 → has events e ≡ covered moves q states e)
@@ -164,17 +167,3 @@ unfolding coveredInto
 covering-all moves i q states events l inv =
     same-mask 64 events (setOf 64 (covered moves q states)) (inv .0) (setOf-small 64 (covered moves q states))
     (λ e le. inv .1 e le ∙ ap (λ (xs : List Move). covered xs q states e) (take-all i moves l) ∙ sym (has-setOf 64 (covered moves q states) e le))
-
--- ---- an array of 64 sets
-
--- the first n are by the function
-abbrev pub Filled : (ℕ → ℕ) → ℕ → List ℕ → Type 0
-Filled f n masks = (length masks ≡ 64) × ((e : ℕ) → e < n → getD masks e 0 ≡ f e)
-
-pub filled-more : (f : ℕ → ℕ) (n : ℕ) (masks new : List ℕ) → n < 64 → Filled f n masks → new ≡ set masks n (f n) → Filled f (n + 1) new
-filled-more f n masks new l (long, are) is = subst (Filled f (n + 1)) (sym is) (
-  length-set masks n (f n) ∙ long,
-  below-more (λ e. getD (set masks n (f n)) e 0 ≡ f e) n
-      (λ e h. getD-set-other masks n e (f n) 0 (λ p. let no-way : ⊥ = omega (arith, p, h) in no-way) ∙ are e h)
-      (getD-set-same masks n (f n) 0 (omega (arith, long))),
-)

@@ -1,7 +1,7 @@
 -- The states that are left of the live ones are the safe states, and the lowest of them is the release state.
 use Prim.Native.Nat.{ℕ, _-_, _^_, _<_, _≤_}
 use native.Mathlib.Nat.{eq-zero-or-pos}
-use mathlib.Core.Bool.{Bool, _&&_}
+use mathlib.Core.Bool.{Bool, true, _&&_}
 use mathlib.Core.List.{List, [], _∷_}
 use mathlib.Core.Logic.{_⊎_, inl, inr, _↔_}
 use mathlib.Core.Path.{_≡_, refl, sym, subst, _∙_}
@@ -13,7 +13,7 @@ use Rattle.events.specs.Sets.{has, _∈_, Subset, setOf}
 use Rattle.events.specs.Cells.{Covers, covers}
 use Rattle.events.proofs.CellLaws.{covers-is}
 use Rattle.events.proofs.LowestLaws.{low-member, low-least}
-use Rattle.events.proofs.SetLaws.{true-T, false-T, T-or, T-and, ∈-setOf, setOf-small, ∈-below, ∈-every, ∈-none, same-members, no-member, grown}
+use Rattle.events.proofs.SetLaws.{true-T, false-T, T-or, T-and, ∈-setOf, setOf-small, ∈-below, ∈-every, ∈-none, same-members, no-member, grown, below-width}
 use Rattle.rules.specs.declared.Move.{Move}
 use Rattle.rules.specs.automata.Rules.{Rule, Any, WellFormed}
 use Rattle.rules.specs.automata.Runs.{Safe}
@@ -157,6 +157,9 @@ module _ (rule : Rule) (well : WellFormed rule) where
 
   pub safe-small : safeStates rule < 2 ^ 32
   safe-small = around .0
+
+  pub safe-state : (safe q : ℕ) → safe ≡ safeStates rule → has safe q ≡ true → q < 32
+  safe-state safe q is h = below-width 32 safe q (subst (λ (s : ℕ). s < 2 ^ 32) (sym is) safe-small) h
 
   pub safe-right : (q : ℕ) → (q ∈ safeStates rule) ↔ Safe rule q
   safe-right = safe-is rule (safeStates rule)

@@ -103,10 +103,26 @@ module _ (live safe release q : ℕ) where
         go true p false p′ t = none (last true p ∙ ap (λ (b : Bool). cond b (bitOr (2 ^ (cond (has safe (m .to)) release (m .to))) 0) 0) p′)
         go false p b p′ t = none (last false p)
 
+    -- the same of a move that is kept, for an event that it may cover or not, and of one that is not kept
+    pub gathered-add : eqb (m .from) q && has live (m .to) ≡ true → (new : ℕ) → new ≡ 2 ^ (cond (has safe (m .to)) release (m .to))
+        → (r : ℕ) → r ≡ cond (covers (m .cell) e) (bitOr set new) set → r ≡ selectedKept (take (i + 1) moves) live safe release q e
+    gathered-add kept new is-new r is-r = is-r ∙ go (covers (m .cell) e) refl
+      where
+        go : (b : Bool) → covers (m .cell) e ≡ b → cond b (bitOr set new) set ≡ selectedKept (take (i + 1) moves) live safe release q e
+        go true p = selected-add (ap₂ (λ (a b : Bool). a && b) kept p) new is-new
+        go false p = selected-skip (ap₂ (λ (a b : Bool). a && b) kept p)
+
+    pub gathered-skip : eqb (m .from) q && has live (m .to) ≡ false → set ≡ selectedKept (take (i + 1) moves) live safe release q e
+    gathered-skip other = selected-skip (ap (λ (b : Bool). b && covers (m .cell) e) other)
+
   pub selected-all : (moves : List Move) (i e set : ℕ) → length moves ≤ i → set ≡ selectedKept (take i moves) live safe release q e → set ≡ selectedKept moves live safe release q e
   selected-all moves i e set l inv = inv ∙ ap (λ (xs : List Move). selectedKept xs live safe release q e) (take-all i moves l)
 
 -- ---- what a live target stands for is a state
+
+-- what a target stands for, by the lowest safe state
+pub stands : (safe release to r : ℕ) → r ≡ cond (has safe to) release to → release ≡ trailingZeros 32 safe → r ≡ cond (has safe to) (trailingZeros 32 safe) to
+stands safe release to r is low = is ∙ ap (λ (n : ℕ). cond (has safe to) n to) low
 
 pub stand-below : (live safe to : ℕ) → live < 2 ^ 32 → has live to ≡ true → cond (has safe to) (trailingZeros 32 safe) to < 32
 stand-below live safe to small h = go (has safe to) refl

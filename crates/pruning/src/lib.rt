@@ -3,7 +3,7 @@ ghost use denote.Ref.{now};
 ghost use mathlib.Core.Logic.{_↔_};
 ghost use mathlib.Core.Path.{_≡_};
 ghost use Prim.Native.Nat.{ℕ, _<_, _≤_};
-ghost use lib.ListN.{length, getD, set};
+ghost use lib.ListN.{length, getD};
 ghost use Rattle.events.specs.Sets.{_∈_};
 ghost use Rattle.rules.specs.automata.Rules.{WellFormed};
 ghost use Rattle.rules.specs.automata.Runs.{Live, Safe};
@@ -16,6 +16,7 @@ use crate::live::live_states;
 use crate::safe::safe_states;
 use crate::select::released_set;
 use crate::select::selected_kept;
+use crate::select::selected_sets;
 use crate::states::first;
 use crate::states::holds;
 use rulefile::draft::Draft;
@@ -109,12 +110,17 @@ impl<'d, 'a> Pruning<'d, 'a> {
         }
     }
 
-    // Writes the pruned set of a state at an event to its place.
-    fn write_set(&self, sets: &mut [u32; 64], state: u8, event: u8)
-        requires { ⌜ event < 64 ⌝ }
-        ensures { λ _. ⌜ now (sets .exit) ≡ set (now (sets .entry)) event (prunedSet (ruleOf (now (self .entry) .draft .now)) state event) ⌝ }
+    // The pruned sets of a state, by event.
+    fn pruned_sets(&self, state: u8) -> [u32; 64]
+        ensures { λ r. ⌜ ((e : ℕ) → e < 64 → getD r e 0 ≡ prunedSet (ruleOf (now (self .entry) .draft .now)) state e) ⌝ }
     {
-        sets[event as usize] = self.pruned_set(state, event);
+        if holds(self.safe, state) {
+            return [released_set(self.safe, state); 64];
+        }
+        if holds(self.live, state) {
+            return selected_sets(self.draft.moves(), self.live, self.safe, state);
+        }
+        [0; 64]
     }
 
     // The pruned sets of a state, by event. A state that the rule does not have leads to nothing.
@@ -122,10 +128,6 @@ impl<'d, 'a> Pruning<'d, 'a> {
         ensures pruned { λ r. ⌜ Wants (ruleOf (now (self .entry) .draft .now)) state (λ e. getD r e 0) ⌝ }
         ensures past { λ r. ⌜ (length (ruleOf (now (self .entry) .draft .now) .states) ≤ state → (e : ℕ) → e < 64 → getD r e 0 ≡ 0) ⌝ }
     {
-        let mut sets = [0; 64];
-        for event in 0..64u8 {
-            self.write_set(&mut sets, state, event);
-        }
-        sets
+        self.pruned_sets(state)
     }
 }

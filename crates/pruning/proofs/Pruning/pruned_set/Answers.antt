@@ -1,11 +1,9 @@
 -- The set is the one selected from the pruned moves.
 use mathlib.Core.Path.{sym, subst, _∙_}
-use Prim.Native.Nat.{ℕ, _^_, _<_}
-use Rattle.events.proofs.SetLaws.{below-width}
 use Rattle.pruning.specs.Drafts.{ruleOf}
 use Rattle.pruning.specs.Computed.{Ranged}
 use Rattle.pruning.proofs.DraftLaws.{draft-well, draft-ranged}
-use Rattle.pruning.proofs.SafeLaws.{safe-small}
+use Rattle.pruning.proofs.SafeLaws.{safe-state}
 use Rattle.pruning.proofs.SelectLaws.{pruned-safe, pruned-live, pruned-dead}
 use Rattle.pruning.proofs.Pruning.pruned_set.Needs as need
 
@@ -13,7 +11,7 @@ pub released-set-requires : need.released-set-requires
 released-set-requires c κs =
     let p = c .args .self .now in
     let d = p .draft .now in
-    below-width 32 (p .safe) (c .args .state) (subst (λ (s : ℕ). s < 2 ^ 32) (sym (p .«safe_is»)) (safe-small (ruleOf d) (draft-well d))) (sym (c .holds .ensures) ∙ c .if-holds .taken)
+    safe-state (ruleOf d) (draft-well d) (p .safe) (c .args .state) (p .«safe_is») (sym (c .holds .ensures) ∙ c .if-holds .taken)
 
 pub returns-then-holds : need.returns-then-holds
 returns-then-holds c =

@@ -1,20 +1,10 @@
 -- The events are those that the moves so far cover.
-use mathlib.Core.Bool.{Bool, _&&_}
-use mathlib.Core.Path.{_≡_, refl, sym, ap, _∙_}
-use Prim.Native.Nat.{ℕ, _<_}
-use lib.Dec.{ltb}
+use mathlib.Core.Path.{refl, sym, _∙_}
 use Rattle.std.proofs.shelf.Elements.{all-getD}
-use Rattle.std.proofs.shelf.Tests.{lt-ltb}
-use Rattle.events.specs.Cells.{covers}
-use Rattle.events.specs.Sets.{has}
 use Rattle.pruning.specs.Computed.{InRange}
-use Rattle.pruning.proofs.LoopLaws.{covering-none, covering-add, covering-skip, covering-all}
+use Rattle.pruning.proofs.LoopLaws.{in-cell, covering-none, covering-add, covering-skip, covering-all}
 use Rattle.pruning.proofs.safe.covered_events.Needs as need
 use Rattle.pruning.proofs.safe.covered_events.Needs.{then-goes-into, else-goes-into}
-
--- a cell's own test holds
-in-cell : (cell more : ℕ) → cell < 729 → ((e : ℕ) → e < 64 → has more e ≡ (ltb cell 729 && covers cell e)) → (e : ℕ) → e < 64 → has more e ≡ covers cell e
-in-cell cell more l h e le = h e le ∙ ap (λ (b : Bool). b && covers cell e) (lt-ltb cell 729 l)
 
 pub loop-m-holds : need.loop-m-holds
 loop-m-holds c = covering-none (c .args .state) (c .args .set)

@@ -1,19 +1,13 @@
 -- The set is what the event selects from the moves so far.
-use mathlib.Core.Path.{_≡_, refl, sym, ap, subst, _∙_}
+use mathlib.Core.Path.{refl, sym, ap, subst, _∙_}
 use Prim.Native.Nat.{ℕ, _^_, _<_}
 use lib.Count.{trailingZeros}
 use Rattle.std.proofs.shelf.Elements.{all-getD}
 use Rattle.std.proofs.shelf.Tests.{and-parts}
-use Rattle.events.specs.Sets.{has}
-use mathlib.Core.Bool.{cond}
 use Rattle.pruning.specs.Computed.{InRange}
-use Rattle.pruning.proofs.SelectLaws.{selected-none, selected-add, selected-skip, selected-all, stand-below}
+use Rattle.pruning.proofs.SelectLaws.{selected-none, selected-add, selected-skip, selected-all, stands, stand-below}
 use Rattle.pruning.proofs.select.selected_kept.Needs as need
 use Rattle.pruning.proofs.select.selected_kept.Needs.{then-selects, else-selects}
-
--- what a target stands for, by the lowest safe state
-stands : (safe release to r : ℕ) → r ≡ cond (has safe to) release to → release ≡ trailingZeros 32 safe → r ≡ cond (has safe to) (trailingZeros 32 safe) to
-stands safe release to r is low = is ∙ ap (λ (n : ℕ). cond (has safe to) n to) low
 
 pub loop-m-holds : need.loop-m-holds
 loop-m-holds c = selected-none (c .args .live) (c .args .safe) (trailingZeros 32 (c .args .safe)) (c .args .state) (c .args .event)
