@@ -23,9 +23,8 @@ use Rattle.rules.proofs.trees.LayoutLaws.{nodes-length, layout-stands, stands-m
 use Rattle.pruning.specs.Computed.{liveStates, safeStates, lowestSafe}
 use Rattle.pruning.proofs.LiveLaws.{live-small, live-right}
 use Rattle.pruning.proofs.SafeLaws.{safe-right, release-some, release-none}
-use Rattle.fitting.specs.declared.fit.Fitting.{Fitting}
 use Rattle.fitting.specs.States.{overwrite, StateFitted}
-use Rattle.fitting.specs.Fits.{NextFitted, DraftFitted, toldCosts, ImplementsAll}
+use Rattle.fitting.specs.Fits.{NextFitted, DraftFitted}
 use Rattle.fitting.proofs.StateLaws.{rule-fitted}
 use Rattle.fitting.proofs.Layouts.{layout-more, layout-end, layout-front}
 

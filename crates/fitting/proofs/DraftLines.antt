@@ -4,16 +4,15 @@ use native.Mathlib.Nat.{not-suc-le-zero, le-of-suc-le-suc}
 use native.Mathlib.Omega.{arith}
 use mathlib.Core.List.{List, [], _∷_, map}
 use mathlib.Core.Logic.{_≢_}
-use mathlib.Core.Path.{_≡_, refl, sym, ap, _∙_}
+use mathlib.Core.Path.{_≡_, sym, ap, _∙_}
 use borrow.Author.Count.{below-more}
-use lib.ListN.{length, getD, set}
+use lib.ListN.{length, set}
 use Rattle.std.specs.Finite.{nth}
 use Rattle.std.specs.declared.option.Option.the-variants.{Some, None}
 use Rattle.std.proofs.shelf.Lists.{length-set, length-map, getD-set-same, getD-set-other, ext-getD}
 use Rattle.rules.specs.declared.Line.{Line}
 use Rattle.rules.specs.automata.Rules.{lineOf}
 use Rattle.rulefile.specs.declared.draft.Draft.{Draft}
-use Rattle.rulefile.specs.declared.record.StateRecord.{StateRecord}
 use Rattle.rulefile.specs.Card.{LineValue}
 use Rattle.rulefile.specs.Draft.{draftRule}
 use Rattle.pruning.specs.Drafts.{ruleOf}

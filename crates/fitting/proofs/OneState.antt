@@ -2,14 +2,13 @@
 use Prim.Native.Nat.{ℕ, zero, suc, _<_, _≤_}
 use native.Mathlib.Nat.{not-suc-le-zero, le-of-suc-le-suc}
 use native.Mathlib.Omega.{arith}
-use mathlib.Core.List.{List, [], _∷_, map}
+use mathlib.Core.List.{[], _∷_, map}
 use mathlib.Core.Path.{_≡_, refl, ap, _∙_}
 use lib.Dec.{lit≤}
-use lib.ListN.{length, getD, replicate}
-use Rattle.rules.specs.declared.Node.{Node}
+use lib.ListN.{getD, replicate}
 use Rattle.rules.specs.automata.Rules.{Rule, Accepts, LineInRange, WellFormed}
 use Rattle.rules.specs.automata.Runs.{Live}
-use Rattle.rules.specs.trees.Trees.{Tree, leaf}
+use Rattle.rules.specs.trees.Trees.{leaf}
 use Rattle.rules.specs.trees.Layouts.{Stands, topOf}
 use Rattle.rules.specs.trees.Costs.{Price, Lawful, expected}
 use Rattle.rules.specs.trees.Bests.{Bests, Fitted}

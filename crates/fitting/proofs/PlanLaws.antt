@@ -12,12 +12,12 @@ use Rattle.std.specs.declared.option.Option.{Option}
 use Rattle.std.specs.declared.option.Option.the-variants.{Some, None}
 use Rattle.std.proofs.shelf.Lists.{getD-past}
 use Rattle.std.proofs.shelf.Tests.{cases-lt, eqb-true, eqb-false}
-use Rattle.events.specs.Sets.{_∈_, setOf}
+use Rattle.events.specs.Sets.{_∈_}
 use Rattle.events.proofs.SetLaws.{∈-setOf, dec∈, same-members}
 use Rattle.rules.specs.declared.Node.{Node}
 use Rattle.rules.specs.automata.Rules.{Rule, Starts, WellFormed}
 use Rattle.rules.specs.automata.Runs.{Live, Safe}
-use Rattle.rules.specs.automata.Pruning.{Release, IsPrunedSet}
+use Rattle.rules.specs.automata.Pruning.{IsPrunedSet}
 use Rattle.rules.specs.trees.Trees.{Tree, leaf, gives, Serves}
 use Rattle.rules.specs.trees.Layouts.{topOf, Stands}
 use Rattle.rules.specs.trees.Costs.{Price, Lawful}

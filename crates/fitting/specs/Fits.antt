@@ -53,7 +53,7 @@ pub record DraftFitted (price : Price) (rule : Rule) (before after : List Node) 
   pub counted : told .states ≡ length (rule .states)
   pub fitted : FittedAll price rule trees (toldCosts told)
   pub implements : ImplementsAll rule trees
-  -- the live, the safe and the release states
+  -- there are sets of its live and its safe states, and its release state
   pub kinds : (live : ℕ) × ((safe : ℕ) × ((release : ℕ) × Kinds rule live safe release))
   -- the nodes are, one by one, the layout of the trees, and behind them the rest as it was
   pub behind-is : told .behind ≡ length (layout trees)

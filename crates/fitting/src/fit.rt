@@ -1,5 +1,4 @@
 // Fitting a draft: the best trees of all its states, written into a lent list of nodes, and what each costs.
-ghost use mathlib.Core.Bool.{true, false};
 ghost use mathlib.Core.Path.{_≡_};
 ghost use Prim.Native.Nat.{_+_, _^_, _<_, _≤_};
 ghost use lib.Dec.{leb};

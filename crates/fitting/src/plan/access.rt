@@ -1,4 +1,4 @@
-// What a plan tells: its draft, its nodes and the top places in them, its lines, and its sets of states.
+// What a plan tells: its nodes and the top places in them, its lines, and its sets of states.
 ghost use mathlib.Core.Path.{_≡_};
 ghost use Prim.Native.Nat.{_<_, _≤_};
 ghost use lib.ListN.{length, getD};
@@ -7,7 +7,6 @@ ghost use Rattle.rules.specs.watch.Holding.{treeOf, Sound};
 ghost use Rattle.pruning.specs.Drafts.{ruleOf};
 ghost use Rattle.fitting.specs.Plans.{planTrees};
 use crate::plan::Plan;
-use rulefile::draft::Draft;
 use rules::Line;
 use rules::Node;
 
@@ -20,34 +19,31 @@ pub struct Sets {
     pub release: u32,
 }
 
-impl<'a> Plan<'a> {
-    // The draft.
-    pub fn draft(&self) -> &Draft<'a>
-        ensures { λ r. ⌜ now r ≡ now (self .entry) .draft ⌝ }
-    {
-        &self.draft
-    }
+// The top place that is kept for a state, and 0 past the 32 places.
+fn top_in(tops: &[u16; 32], state: u8) -> u16
+    ensures is { λ r. ⌜ (state < 32 → r ≡ getD (now (tops .entry)) state 0) ⌝ }
+    ensures past { λ r. ⌜ (32 ≤ state → r ≡ 0) ⌝ }
+{
+    if state < 32 { tops[state as usize] } else { 0 }
+}
 
-    // The nodes. The trees that stand in them serve the states.
+impl<'a> Plan<'a> {
+    // The nodes.
     pub fn nodes(&self) -> &'a [Node]
-        ensures same { λ r. ⌜ now r ≡ now (self .entry) .nodes .now ⌝ }
-        ensures sound { λ _. ⌜ Sound (ruleOf (now (self .entry) .draft)) (planTrees (now (self .entry))) ⌝ }
+        ensures { λ r. ⌜ now r ≡ now (self .entry) .nodes .now ⌝ }
     {
         let nodes: &'a [Node] = self.nodes;
         nodes
     }
 
-    // The place of a state's top node, from which its tree can be walked down, and 0 past the 32 places.
+    // The place of a state's top node, and 0 past the 32 places. The tree that stands there serves the state.
     pub fn top(&self, state: u8) -> u16
         ensures is { λ r. ⌜ (state < 32 → r ≡ getD (now (self .entry) .tops) state 0) ⌝ }
         ensures past { λ r. ⌜ (32 ≤ state → r ≡ 0) ⌝ }
         ensures stands { λ r. ⌜ (state < length (ruleOf (now (self .entry) .draft) .states) → Stands (now (self .entry) .nodes .now) r (treeOf (planTrees (now (self .entry))) state)) ⌝ }
+        ensures sound { λ _. ⌜ Sound (ruleOf (now (self .entry) .draft)) (planTrees (now (self .entry))) ⌝ }
     {
-        if state < 32 {
-            self.tops[state as usize]
-        } else {
-            0
-        }
+        top_in(&self.tops, state)
     }
 
     // The six lines.

@@ -1,10 +1,8 @@
 -- Each turn fits one state, behind the trees of those before it.
 use Prim.Native.Nat.{_<_}
 use native.Mathlib.Omega.{arith}
-use mathlib.Core.List.{List}
 use mathlib.Core.Path.{_≡_, sym, ap, subst, _∙_}
-use Rattle.rules.specs.automata.Rules.{Rule, WellFormed}
-use Rattle.rules.specs.declared.Node.{Node}
+use Rattle.rules.specs.automata.Rules.{WellFormed}
 use Rattle.pruning.specs.Drafts.{ruleOf}
 use Rattle.rulefile.specs.declared.draft.Draft.{Draft}
 use Rattle.fitting.specs.Fits.{NextFitted}

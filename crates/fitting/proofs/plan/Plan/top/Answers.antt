@@ -1,13 +1,22 @@
--- The trees of every plan stand at their tops.
-use mathlib.Core.Path.{refl}
+-- The trees of every plan stand at their tops, and serve its states.
+use Prim.Native.Nat.{ℕ, _<_}
+use mathlib.Core.Path.{sym, subst}
 use native.Mathlib.Omega.{arith}
-use Rattle.pruning.specs.Drafts.{ruleOf}
+use Rattle.rules.specs.trees.Layouts.{Stands}
+use Rattle.rules.specs.watch.Holding.{treeOf}
 use Rattle.pruning.proofs.DraftLaws.{draft-well}
-use Rattle.fitting.proofs.PlanLaws.{plan-stands}
+use Rattle.fitting.specs.Plans.{planTrees}
+use Rattle.fitting.proofs.PlanLaws.{plan-stands, plan-sound}
 use Rattle.fitting.proofs.plan.Plan.top.Needs as need
 
-pub returns-then-state-lt32 : need.returns-then-state-lt32
-returns-then-state-lt32 c = record { is = λ _. refl; past = λ h. absurd (omega arith); stands = plan-stands (c .args .self .now) (c .args .state) }
-
-pub returns-else-state-lt32 : need.returns-else-state-lt32
-returns-else-state-lt32 c = record { is = λ h. absurd (omega arith); past = λ _. refl; stands = λ h. absurd (omega (arith, h, draft-well (c .args .self .now .draft) .few-states)) }
+pub returns : need.returns
+returns c =
+    let p = c .args .self .now in
+    record {
+      is = c .top-in .ensures .is;
+      past = c .top-in .ensures .past;
+      stands = λ h.
+          let low : c .args .state < 32 = omega (arith, h, draft-well (p .draft) .few-states) in
+          subst (λ (at : ℕ). Stands (p .nodes .now) at (treeOf (planTrees p) (c .args .state))) (sym (c .top-in .ensures .is low)) (plan-stands p (c .args .state) h);
+      sound = plan-sound p;
+    }

@@ -4,10 +4,8 @@ use native.Mathlib.Omega.{arith}
 use mathlib.Core.Path.{_≡_, sym, _∙_}
 use lib.ListN.{length}
 use Rattle.std.proofs.shelf.Tests.{le-leb, leb-true}
-use Rattle.rules.specs.trees.Costs.{Lawful}
 use Rattle.pruning.specs.Drafts.{ruleOf}
 use Rattle.pruning.proofs.DraftLaws.{draft-well}
-use Rattle.fitting.specs.Plans.{AsFitted}
 use Rattle.fitting.proofs.OneState.{contents-same}
 use Rattle.fitting.proofs.PlanLaws.{plan-is, one-plan}
 use Rattle.fitting.proofs.ReadLaws.{fit-walkable, fit-gives, same-fitted, fronts-agree}

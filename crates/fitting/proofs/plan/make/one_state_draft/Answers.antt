@@ -1,8 +1,4 @@
 -- With no room for records the check refuses, so the draft is the empty one.
-use mathlib.Core.Path.{_≡_}
-use native.Mathlib.Omega.{arith}
-use Prim.Native.Nat.{ℕ}
-use Rattle.rulefile.specs.Draft.{emptyContents}
 use Rattle.fitting.proofs.OneState.{contents-rule, none-agrees}
 use Rattle.fitting.proofs.plan.make.one_state_draft.Needs as need
 

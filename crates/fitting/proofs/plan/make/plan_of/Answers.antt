@@ -1,5 +1,5 @@
 -- The sets that the pruning tells are those that a plan keeps.
-use mathlib.Core.Path.{_≡_, ap, _∙_}
+use mathlib.Core.Path.{ap, _∙_}
 use Rattle.rulefile.specs.declared.draft.Draft.{Draft}
 use Rattle.pruning.specs.Drafts.{ruleOf}
 use Rattle.pruning.specs.Computed.{liveStates, safeStates}

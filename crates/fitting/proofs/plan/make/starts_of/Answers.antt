@@ -1,6 +1,6 @@
 -- The states of the draft are those of its rule.
 use mathlib.Core.List.{List, map}
-use mathlib.Core.Path.{_≡_, sym, ap, subst, _∙_}
+use mathlib.Core.Path.{sym, ap, subst, _∙_}
 use Prim.Native.Nat.{_≤_}
 use lib.ListN.{length}
 use Rattle.rulefile.specs.declared.record.StateRecord.{StateRecord}
