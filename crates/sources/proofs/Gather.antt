@@ -1,5 +1,5 @@
 -- An event made up again from its six lines.
-use Prim.Native.Nat.{ℕ, _+_, _*_, _%_, _^_, _<_}
+use Prim.Native.Nat.{ℕ, _+_, _^_, _<_}
 use native.Mathlib.Numerals.{add-one}
 use native.Mathlib.Omega.{arith}
 use mathlib.Core.Path.{_≡_, refl, sym, ap, _∙_}
@@ -11,7 +11,6 @@ use Rattle.std.specs.declared.option.Option.{Option}
 use Rattle.std.specs.declared.option.Option.the-variants.{Some, None}
 use Rattle.std.specs.declared.result.Result.{Result}
 use Rattle.std.specs.declared.result.Result.the-variants.{Ok, Err}
-use Rattle.std.proofs.shelf.Bits.{one-shl}
 use Rattle.std.proofs.shelf.Tests.{lt-ltb}
 use Rattle.events.specs.Sets.{has, setOf}
 use Rattle.events.proofs.SetLaws.{has-setOf, setOf-small, same-mask}
@@ -48,12 +47,12 @@ setOf-off n f h = let e = add-one n in rw (e, h)
 
 module _ (first : Option ℕ) (line event : ℕ) (on : Bool) (l : line < 6) (h : Ok on ≡ polled first line) (inv : event ≡ linesBelow first line) where
   -- one line more, on
-  pub more-on : on ≡ true → bitOr event ((1 * 2 ^ line) % 2 ^ 8) ≡ linesBelow first (line + 1)
+  pub more-on : on ≡ true → bitOr event (2 ^ line) ≡ linesBelow first (line + 1)
   more-on t =
       let p = polled-line first line on l h in
       let e : event ≡ setOf line (has (p .0)) = inv ∙ ap (λ (o : Option ℕ). linesBelow o line) (p .1) in
-      ap (bitOr event) (one-shl line 8 (omega arith)) ∙ (or-comm event (2 ^ line) ∙ (ap (bitOr (2 ^ line)) e
-      ∙ (sym (setOf-on line (has (p .0)) (p .2 ∙ t)) ∙ sym (ap (λ (o : Option ℕ). linesBelow o (line + 1)) (p .1)))))
+      or-comm event (2 ^ line) ∙ (ap (bitOr (2 ^ line)) e
+      ∙ (sym (setOf-on line (has (p .0)) (p .2 ∙ t)) ∙ sym (ap (λ (o : Option ℕ). linesBelow o (line + 1)) (p .1))))
 
   -- one line more, off
   pub more-off : on ≡ false → event ≡ linesBelow first (line + 1)

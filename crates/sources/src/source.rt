@@ -1,7 +1,8 @@
 // A line source: a list of events still to come, seen through polls of single lines.
 ghost use mathlib.Core.List.{List, []};
 ghost use mathlib.Core.Path.{_≡_};
-ghost use Prim.Native.Nat.{ℕ, _-_, _^_, min};
+ghost use Prim.Native.Nat.{ℕ, _-_, _^_, _<_, min};
+ghost use lib.Bits.{bitOr};
 ghost use lib.ListN.{length};
 ghost use denote.Ref.{now};
 ghost use Rattle.events.specs.Sets.{has};
@@ -74,6 +75,14 @@ pub(crate) fn poll_event(first: Option<u8>, line: u8) -> Result<bool, SourceRefu
     }
 }
 
+// An event with one of its lines on.
+fn with_line(event: u8, line: u8) -> u8
+    requires { ⌜ line < 6 ⌝ }
+    ensures { λ r. ⌜ r ≡ bitOr event (2 ^ line) ⌝ }
+{
+    event | 1 << line
+}
+
 // The first event of any source, by one poll of each line.
 pub fn first_event<S: LineSource>(source: &S) -> Result<u8, SourceRefusal>
     ensures { λ r. ⌜ r ≡ orNothing (firstOf (events (now (source .entry)))) ⌝ }
@@ -81,7 +90,7 @@ pub fn first_event<S: LineSource>(source: &S) -> Result<u8, SourceRefusal>
     let mut event: u8 = 0;
     for line in 0..LINES {
         if source.poll(line)? {
-            event |= 1 << line;
+            event = with_line(event, line);
         }
     }
     Ok(event)

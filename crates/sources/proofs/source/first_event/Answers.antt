@@ -16,7 +16,7 @@ loop-line-again g c =
     let on = c .in-Continue-poll .field-0 in
     let p = c .in-Continue-poll .ensures tt in
     elim (c .if-branch .came) [
-      | then-branch w ↦ (w .event-is ∙ more-on first line (c .loop-line .event) on (omega arith) p (c .loop-line .inv .0) (w .if-branch .taken), λ _. polled-some first line on (omega arith) p)
+      | then-branch w ↦ (w .event-is ∙ w .with-line-event .ensures ∙ more-on first line (c .loop-line .event) on (omega arith) p (c .loop-line .inv .0) (w .if-branch .taken), λ _. polled-some first line on (omega arith) p)
       | else-branch w ↦ (w .event-is ∙ more-off first line (c .loop-line .event) on (omega arith) p (c .loop-line .inv .0) (w .if-branch .left), λ _. polled-some first line on (omega arith) p)
     ]
 
