@@ -1,4 +1,6 @@
 // The program: reads the files `rule` and `log` of the folder that it runs in, and prints the library's answer.
+#![tactic(auto)]
+
 ghost use Rattle.std.specs.Prelude.{ℕ, ◌≤◌, IfSome, vec_len};
 
 use listing::output::output;

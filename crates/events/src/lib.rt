@@ -1,4 +1,6 @@
 // Sets of small numbers, and the events that a cell covers. The definitions in specs/ say what they mean.
+#![tactic(auto)]
+
 ghost use Rattle.std.specs.Prelude.{◌≡◌, ℕ, ◌<◌, ◌≤◌, false, ◌&&◌, nat_lt};
 ghost use Rattle.events.specs.Cells.{covers, lowest};
 ghost use Rattle.events.specs.Laws.{UnionMembers, SharedMembers, NoMembers, OneMember, EveryMember, MembersBelow, SameMembers, TestedMembers, UnionOverMembers};

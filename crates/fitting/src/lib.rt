@@ -1,4 +1,6 @@
 // Fitting: for each state the cheapest polling tree, by any measure that keeps the law and the bound.
+#![tactic(auto)]
+
 mod best;
 mod cells;
 pub mod fit;

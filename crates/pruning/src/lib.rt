@@ -1,4 +1,6 @@
 // Pruning: the live and the safe states of a draft, its release state, and the pruned sets of each state.
+#![tactic(auto)]
+
 ghost use Rattle.std.specs.Prelude.{◌≡◌, ℕ, ◌<◌, ◌≤◌, ◌↔◌, length, slice_index};
 ghost use Rattle.events.specs.Sets.{◌∈◌};
 ghost use Rattle.rules.specs.automata.Rules.{WellFormed};

@@ -1,4 +1,6 @@
 // The rule file: its check into lent records, and the draft that is made of it.
+#![tactic(auto)]
+
 pub mod card;
 pub mod check;
 pub mod draft;

@@ -1,4 +1,6 @@
 // The records of a rule, and the calls and answers of a watch. The definitions in specs/ say what they mean.
+#![tactic(auto)]
+
 ghost use Rattle.std.specs.Prelude.{◌≡◌};
 ghost use Rattle.rules.specs.watch.Verdicts.{word_of};
 ghost use Rattle.rules.specs.watch.Calls.{number_of, index_of};

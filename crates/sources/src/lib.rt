@@ -1,4 +1,6 @@
 // Line sources: each means a list of events still to come, and is seen through polls of single lines.
+#![tactic(auto)]
+
 ghost use Rattle.sources.specs.Laws.{ChangesWorked, FlipsCancel, FlippedLines, RewiredLines, StraightKeeps, TurnsCancel, WiringsCompose};
 
 pub mod change;

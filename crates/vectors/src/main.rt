@@ -1,4 +1,6 @@
 // Runs files of expected answers, each line through the public calls, and prints how many agree. A file that is not there is passed over.
+#![tactic(auto)]
+
 mod changes;
 mod hex;
 mod reader;

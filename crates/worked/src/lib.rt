@@ -1,4 +1,6 @@
 // The worked cases, as tests: numbers, cells, the worked rule whole and damaged, the lent lists and the making, and what the program prints.
+#![tactic(auto)]
+
 #[cfg(test)]
 mod small;
 #[cfg(test)]

@@ -3,4 +3,4 @@ use Rattle.events.proofs.CellLaws.{lowest_zeros}
 use Rattle.events.proofs.lowest_bit.Goals as goal
 
 pub returns : goal.returns
-returns c = lowest_zeros c.args.cell c.entry.result c.entry.type-inv c.entry.ensures
+returns c = lowest_zeros c.args.cell c.entry.result c.entry.type_inv c.entry.ensures

@@ -7,6 +7,6 @@ returns c = record {
   value = c.decode.ensures.value;
   within = c.decode.ensures.within;
   exact = λ v q.
-      let e = number_exact c.args.bytes.now c.args.at v q (λ i. (c.type-inv.bytes i).fits) in
+      let e = number_exact c.args.bytes.now c.args.at v q (λ i. (c.type_inv.bytes i).fits) in
       ((λ h. e.0 (sym c.decode.ensures.value ∙ h)), (λ h. c.decode.ensures.value ∙ e.1 h));
 }

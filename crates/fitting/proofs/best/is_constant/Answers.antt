@@ -12,7 +12,7 @@ pub bounds-sets-lowest-event : goal.bounds-sets-lowest-event
 bounds-sets-lowest-event c = omega (arith, lowest-small c.args.cell, c.lowest-event.ensures.found c.requires)
 
 pub loop-rest-init : goal.loop-rest-init
-loop-rest-init c = left_all (value_at c.args.sets.now) c.args.cell c.events-of-rest.result c.requires c.events-of-rest.type-inv c.events-of-rest.ensures.covered
+loop-rest-init c = left_all (value_at c.args.sets.now) c.args.cell c.events-of-rest.result c.requires c.events-of-rest.type_inv c.events-of-rest.ensures.covered
 
 pub loop-rest-preserved : goal.loop-rest-preserved
 loop-rest-preserved c =

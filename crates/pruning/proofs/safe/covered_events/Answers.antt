@@ -16,7 +16,7 @@ loop-m-preserved c =
       | then-goes-into w ↦
           simp w.events-is
           (covering_add c.args.moves.now c.loop-m.m-index _ (record { from = 0; cell = 0; to = 0 }) c.args.state c.args.set c.loop-m.events c.loop-m-test.true refl c.loop-m.invariant
-          w.events-of-events.result w.events-of-events.type-inv (sym c.goes-into.ensures ∙ w.if-goes-into.true) (in_cell _ _ range.on_cell_lem w.events-of-events.ensures.covered))
+          w.events-of-events.result w.events-of-events.type_inv (sym c.goes-into.ensures ∙ w.if-goes-into.true) (in_cell _ _ range.on_cell_lem w.events-of-events.ensures.covered))
       | else-goes-into w ↦
           simp w.events-is
           (covering_skip c.args.moves.now c.loop-m.m-index _ (record { from = 0; cell = 0; to = 0 }) c.args.state c.args.set c.loop-m.events c.loop-m-test.true refl c.loop-m.invariant

@@ -9,7 +9,7 @@ loop-set-init c = (search rules, refl)
 
 pub loop-set-preserved : goal.loop-set-preserved
 loop-set-preserved c = (
-  c.keep-covered-next.type-inv,
+  c.keep-covered-next.type_inv,
   ap (safe_in c.args.moves.now) c.keep-covered-next.ensures ∙ safe_next c.args.moves.now c.loop-set.set c.loop-set.invariant.0 ∙ c.loop-set.invariant.1,
 )
 

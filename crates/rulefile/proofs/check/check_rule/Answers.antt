@@ -36,8 +36,8 @@ returns c =
     let moves = c.write-moves.ensures ∙ ap (λ r. overlaid r c.args.moves.now) rows' in
     record {
       result = rw (wide, o.1) (ap (λ (x : Outline). Ok (record { states = x.states; moves = x.moves })) o.2);
-      exact = ((λ _. readable_yes _ _ _ o.0 (λ i. (c.type-inv.file i).fits) room.0 room.1 o.1), λ _. refl);
-      recorded = recorded_as _ _ _ _ o.0 o.2 (recorded _ o.0 _ _ _ _ (λ i. (c.type-inv.file i).fits) o.1 states moves);
+      exact = ((λ _. readable_yes _ _ _ o.0 (λ i. (c.type_inv.file i).fits) room.0 room.1 o.1), λ _. refl);
+      recorded = recorded_as _ _ _ _ o.0 o.2 (recorded _ o.0 _ _ _ _ (λ i. (c.type_inv.file i).fits) o.1 states moves);
       states = rw (wide, o.1) states;
       moves = rw (wide, o.1) moves;
     }
@@ -49,7 +49,7 @@ returns-in-err-outline c =
     let wide = sym c.in-ok-has-room.ensures in
     record {
       result = rw (p.1, p.2, wide, bad);
-      exact = rw p.1 (refuse (λ x. unreadable _ _ _ _ (λ i. (c.type-inv.file i).fits) bad x));
+      exact = rw p.1 (refuse (λ x. unreadable _ _ _ _ (λ i. (c.type_inv.file i).fits) bad x));
       recorded = rw p.1 tt;
       states = rw (wide, bad);
       moves = rw (wide, bad);

@@ -11,7 +11,7 @@ returns-in-err-at c =
     let p = err_from_is_err_and c.from-residual.result c.from-residual.ensures.1 in
     let told = sym (check_fault f c.loop-at.at c.in-err-at.field-0.0 (omega arith) c.in-err-at.ensures.value) ∙ c.loop-at.invariant in
     let e : c.from-residual.result ≡ checked_pairs (pairs_from f 0) = p.1 ∙ (ap Err p.2 ∙ told) in
-    record { fault = e; exact = changes_exact f _ (λ i. (c.type-inv.bytes i).fits) e; leftmost = changes_leftmost f _ (λ i. (c.type-inv.bytes i).fits) e }
+    record { fault = e; exact = changes_exact f _ (λ i. (c.type_inv.bytes i).fits) e; leftmost = changes_leftmost f _ (λ i. (c.type_inv.bytes i).fits) e }
 
 pub loop-at-preserved : goal.loop-at-preserved
 loop-at-preserved c = sym (check_more c.args.bytes.now c.loop-at.at c.in-ok-at.field-0 c.in-ok-at.ensures.value) ∙ c.loop-at.invariant
@@ -20,4 +20,4 @@ pub returns : goal.returns
 returns c =
     let f = c.args.bytes.now in
     let e = sym (check_end f c.loop-at.at (omega arith)) ∙ c.loop-at.invariant in
-    record { fault = e; exact = changes_exact f _ (λ i. (c.type-inv.bytes i).fits) e; leftmost = changes_leftmost f _ (λ i. (c.type-inv.bytes i).fits) e }
+    record { fault = e; exact = changes_exact f _ (λ i. (c.type_inv.bytes i).fits) e; leftmost = changes_leftmost f _ (λ i. (c.type_inv.bytes i).fits) e }

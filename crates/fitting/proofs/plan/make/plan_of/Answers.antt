@@ -19,9 +19,9 @@ invariant-of-result c =
     let same = c.of-pruning.ensures.same in (
       c.lines-of-lines.ensures,
       (
-        live_same (rule_of d) (draft_well d) c.live-live.result c.live-live.type-inv c.live-live.ensures ∙ ap (λ (x : Draft). live_states (rule_of x)) same,
+        live_same (rule_of d) (draft_well d) c.live-live.result c.live-live.type_inv c.live-live.ensures ∙ ap (λ (x : Draft). live_states (rule_of x)) same,
         (
-          safe_same (rule_of d) (draft_well d) c.safe-safe.result c.safe-safe.type-inv c.safe-safe.ensures ∙ ap (λ (x : Draft). safe_states (rule_of x)) same,
+          safe_same (rule_of d) (draft_well d) c.safe-safe.result c.safe-safe.type_inv c.safe-safe.ensures ∙ ap (λ (x : Draft). safe_states (rule_of x)) same,
           (
             c.starts-of-starts.ensures,
             (

@@ -23,7 +23,7 @@ returns c =
     let t = c.in-Some.ensures.found in
     record {
       good = search rules;
-      rule = λ _ _. of_file _ (λ i. (c.type-inv.file i).fits) _ _ _ (drafted_read _ _ _ t.0 t.1 _ t.2) (drafted_lines _ _ _ t.0 t.1 _ t.2)
+      rule = λ _ _. of_file _ (λ i. (c.type_inv.file i).fits) _ _ _ (drafted_read _ _ _ t.0 t.1 _ t.2) (drafted_lines _ _ _ t.0 t.1 _ t.2)
           (drafted_states _ _ _ t.0 t.1 _ t.2) (drafted_moves _ _ _ t.0 t.1 _ t.2);
       refused = search rules;
     }

@@ -16,8 +16,8 @@ returns c =
     elim c.match-check-changes.branch [
       | goal.in-Ok w ↦
           let p = begin_plays c.args.bytes.now w.first-run.result w.in-Ok.ensures.fault w.first-run.ensures in
-          simp w.result-is (record { played = p; means = plays_pairs c.args.bytes.now _ (λ i. (c.type-inv.bytes i).fits) p })
+          simp w.result-is (record { played = p; means = plays_pairs c.args.bytes.now _ (λ i. (c.type_inv.bytes i).fits) p })
       | goal.in-Err w ↦
           let p = refused_plays c.args.bytes.now w.in-Err.field-0 w.in-Err.ensures.fault in
-          simp w.result-is (record { played = p; means = plays_pairs c.args.bytes.now _ (λ i. (c.type-inv.bytes i).fits) p })
+          simp w.result-is (record { played = p; means = plays_pairs c.args.bytes.now _ (λ i. (c.type_inv.bytes i).fits) p })
     ]
