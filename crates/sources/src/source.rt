@@ -81,7 +81,7 @@ fn with_line(event: u8, line: u8) -> u8
 
 // The first event of any source, by one poll of each line.
 pub fn first_event<S: LineSource>(source: &S) -> Result<u8, SourceRefusal>
-    ensures { result ≡ or_nothing (first_of (events source.now)) }
+    ensures { result ≡ or_nothing (first_of (S.events source.now)) }
 {
     let mut event: u8 = 0;
     for line in 0..LINES {

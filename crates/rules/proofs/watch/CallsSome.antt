@@ -128,8 +128,8 @@ module _ (rule : Rule) (trees : List Tree) (sound : Sound rule trees) (raw : ℕ
       go held v h (inr nb) (inl room) [] = (answer.Refused refusal.NothingWaits, (es, ([], l, take_nothing_waits rule trees sound es held v h nb room)))
       go held v h (inr nb) (inl room) (e ∷ coming) =
           let (next, settled) = settled-some rule sound.decided (leads_to trees held e) in
-          let (w, (λ x. x.now)) = next-some rule sound.decided (length es + 1) next v in
-          (answer.Taken w (polls_of trees held e), (es ++ e ∷ [], (coming, omega (arith, length-append es (e ∷ []), room), take-taken rule trees sound es held v h e coming next w nb room settled (λ x. x.now))))
+          let (w, reads) = next-some rule sound.decided (length es + 1) next v in
+          (answer.Taken w (polls_of trees held e), (es ++ e ∷ [], (coming, omega (arith, length-append es (e ∷ []), room), take-taken rule trees sound es held v h e coming next w nb room settled reads)))
 
   -- ---- rehearse
 
@@ -146,8 +146,8 @@ module _ (rule : Rule) (trees : List Tree) (sound : Sound rule trees) (raw : ℕ
           → ((next : ℕ) (w : Verdict) → Tried rule trees sound es tried (k + 1) next w → (a : Answer) × Rehearsing rule trees es coming tried a es coming)
           → (a : Answer) × Rehearsing rule trees es coming tried a es coming
       go (inl small) (next, settled) more =
-          let (w, (λ x. x.now)) = next-some rule sound.decided (length es + k + 1) next v in
-          more next w (tried_more rule trees sound es tried k held v so_far next w nb (omega arith) small settled (λ x. x.now))
+          let (w, reads) = next-some rule sound.decided (length es + k + 1) next v in
+          more next w (tried_more rule trees sound es tried k held v so_far next w nb (omega arith) small settled reads)
       go (inr above) s more = (answer.Refused (refusal.NoEvent k), rehearse_not_an_event rule trees sound es tried k held v so_far coming nb (omega arith) above)
 
   rehearsing_some : (es coming tried : List ℕ) → (a : Answer) × Rehearsing rule trees es coming tried a es coming

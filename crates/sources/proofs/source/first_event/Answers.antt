@@ -12,10 +12,10 @@ pub loop-line-preserved : goal.loop-line-preserved
 loop-line-preserved g c =
     let first = first_of (g.S.LineSource.events c.args.source.now) in
     let line = c.loop-line.line in
-    let on = c.in-ok-poll.field-0 in
-    let p = c.in-ok-poll.ensures in
+    let on = c.in_ok-poll.field-0 in
+    let p = c.in_ok-poll.ensures in
     elim c.if-branch.branch [
-      | then-branch w ↦ (w.event-is ∙ w.with-line-event.ensures ∙ more_on first line c.loop-line.event on (omega arith) p c.loop-line.invariant.0 w.if-branch.true, λ _. polled-some first line on (omega arith) p)
+      | then-branch w ↦ (w.event-is ∙ w.with_line-event.ensures ∙ more_on first line c.loop-line.event on (omega arith) p c.loop-line.invariant.0 w.if-branch.true, λ _. polled-some first line on (omega arith) p)
       | else-branch w ↦ (w.event-is ∙ more_off first line c.loop-line.event on (omega arith) p c.loop-line.invariant.0 w.if-branch.false, λ _. polled-some first line on (omega arith) p)
     ]
 

@@ -2,20 +2,20 @@
 use Rattle.sources.proofs.Playing.{begin_sound, begin_plays, refused_plays, plays_pairs, empty_sound}
 use Rattle.sources.proofs.change.ChangeLog.over.Goals as goal
 
-pub invariant-of-result : goal.invariant-of-result
-invariant-of-result c =
-    elim c.match-check-changes.branch [
+pub invariant_of-result : goal.invariant_of-result
+invariant_of-result c =
+    elim c.match-check_changes.branch [
       | goal.in-Ok w ↦
-          let s = begin_sound c.args.bytes.now w.first-run.result w.in-Ok.ensures.fault w.first-run.ensures in
+          let s = begin_sound c.args.bytes.now w.first_run.result w.in-Ok.ensures.fault w.first_run.ensures in
           simp w.result-is (s.small, (s.whole, (s.ready, tt)))
       | goal.in-Err w ↦ let s = empty_sound in simp w.result-is (s.small, (s.whole, (s.ready, tt)))
     ]
 
 pub returns : goal.returns
 returns c =
-    elim c.match-check-changes.branch [
+    elim c.match-check_changes.branch [
       | goal.in-Ok w ↦
-          let p = begin_plays c.args.bytes.now w.first-run.result w.in-Ok.ensures.fault w.first-run.ensures in
+          let p = begin_plays c.args.bytes.now w.first_run.result w.in-Ok.ensures.fault w.first_run.ensures in
           simp w.result-is (record { played = p; means = plays_pairs c.args.bytes.now _ (λ i. (c.type_inv.bytes i).fits) p })
       | goal.in-Err w ↦
           let p = refused_plays c.args.bytes.now w.in-Err.field-0 w.in-Err.ensures.fault in

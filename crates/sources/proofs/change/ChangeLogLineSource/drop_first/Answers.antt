@@ -14,8 +14,8 @@ returns-then-self-eq0 c =
       after = later_none log.bytes.now log.run sound (omega arith);
     }
 
-pub invariant-of-self : goal.invariant-of-self
-invariant-of-self c =
+pub invariant_of-self : goal.invariant_of-self
+invariant_of-self c =
     let log = c.args.self.now in
     let sound : Playable log.bytes.now log.run = can_play log.small log.whole log.ready in
     let s = subst (Playable log.bytes.now) (sym c.run-after-self.ensures) (after_sound log.bytes.now log.run sound) in
@@ -27,5 +27,5 @@ returns c =
     let sound : Playable log.bytes.now log.run = can_play log.small log.whole log.ready in
     record {
       answer = ap dropped (first-left log.bytes.now log.run sound (omega (arith, c.if-self-eq0.false)));
-      after = ap (played_from log.bytes.now) c.run-after-self.ensures ∙ after_plays log.bytes.now log.run sound (omega (arith, c.if-self-eq0.false));
+      after = ap (played_from log.bytes.now) c.run_after-self.ensures ∙ after_plays log.bytes.now log.run sound (omega (arith, c.if-self-eq0.false));
     }

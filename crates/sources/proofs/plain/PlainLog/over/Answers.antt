@@ -3,9 +3,9 @@ use Rattle.std.proofs.Common.{refl, arith}
 use Rattle.sources.proofs.PlainBytes.{taken-get_or}
 use Rattle.sources.proofs.plain.PlainLog.over.Goals as goal
 
-pub invariant-of-result : goal.invariant-of-result
-invariant-of-result c =
-    elim c.match-check-log.branch [
+pub invariant_of-result : goal.invariant_of-result
+invariant_of-result c =
+    elim c.match-check_log.branch [
       | goal.in-Ok w ↦ simp w.result-is (taken-get_or c.args.bytes.now (w.in-Ok.ensures.exact.0 refl), tt)
       | goal.in-Err w ↦ simp w.result-is ((λ k l. absurd (omega arith)), tt)
     ]

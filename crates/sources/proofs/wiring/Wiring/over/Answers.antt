@@ -3,16 +3,16 @@ use Rattle.std.proofs.Common.{refl}
 use Rattle.sources.proofs.Rewiring.{straight-named, taken_means, refused_means}
 use Rattle.sources.proofs.wiring.Wiring.over.Goals as goal
 
-pub invariant-of-result : goal.invariant-of-result
-invariant-of-result g c =
-    elim c.match-check-wiring.branch [
+pub invariant_of-result : goal.invariant_of-result
+invariant_of-result g c =
+    elim c.match-check_wiring.branch [
       | goal.in-Ok w ↦ simp w.result-is ((w.in-Ok.ensures.exact.0 refl).named, tt)
       | goal.in-Err w ↦ simp w.result-is (straight-named, tt)
     ]
 
 pub returns : goal.returns
 returns g c =
-    elim c.match-check-wiring.branch [
+    elim c.match-check_wiring.branch [
       | goal.in-Ok w ↦
           simp w.result-is (record {
             kept = refl;

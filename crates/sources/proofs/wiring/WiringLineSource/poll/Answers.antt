@@ -6,5 +6,5 @@ use Rattle.sources.proofs.wiring.WiringLineSource.poll.Goals as goal
 pub returns : goal.returns
 returns g c =
     let s = c.args.self.now in
-    poll_through s.entries s.turned (g.S.LineSource.events s.below) c.args.line c.in-ok-on.on c.is-on.result c.shown.result
-    (s.named c.args.line (omega arith)) (omega arith) c.in-ok-on.ensures c.is-on.ensures c.shown.ensures
+    poll_through s.entries s.turned (g.S.LineSource.events s.below) c.args.line c.in_ok-on.on c.is_on.result c.shown.result
+    (s.named c.args.line (omega arith)) (omega arith) c.in_ok-on.ensures c.is_on.ensures c.shown.ensures
