@@ -1,5 +1,5 @@
 -- What is known of a file that is taken.
-use Rattle.std.proofs.Common.{◌≡◌, ℕ, ◌<◌, ◌≤◌, true, ltb, List, length, Some, None, Ok, Err, Result, sym, arith}
+use Rattle.std.proofs.Common.{◌≡◌, ℕ, ◌<◌, ◌≤◌, true, ltb, List, length, Some, None, Ok, Err, Result, sym, subst, arith}
 use Rattle.rulefile.specs.declared.fault.FileFault.{FileFault}
 use Rattle.rulefile.specs.declared.fault.FileFault.TheVariants as fault
 use Rattle.codec.specs.declared.read.Read.{Read}
@@ -36,20 +36,21 @@ parts_of f c h =
     let m = then_ok (λ e. e) (count_at f states.0.next 0 1024) _ c start.1 in
     let moves = then_ok (λ e. e) (move_cards_at f n.0.value m.0.next m.0.value) _ c m.2 in
     let all = else_ok (ltb moves.0.next (length f)) _ _ c moves.2 in
-    let is = sym (inside_ok all.1) in
     let long = row_length {S = Unit {0}} (λ _. tt) (λ _. state_record_at f) n.0.value tt n.0.next states.0 states.1 in
     let long' = row_length Some (next_move_at f n.0.value) m.0.value None m.0.next moves.0 moves.1 in
     let range = count_range f lines.0.next 1 32 n.0 n.1 in
     let range' = count_range f states.0.next 0 1024 m.0 m.1 in
-    rw is (record {
+    subst (Parts f) (inside_ok all.1) (record {
       six = row_length {S = Unit {0}} (λ _. tt) (λ _. line_record_at f) 6 tt version.0.next lines.0 lines.1;
       some = omega arith;
       few = omega arith;
       few_moves = omega arith;
       states_next = states.0.next;
-      states_read = rw long states.1;
+      states_read = subst (λ k. state_cards_at f n.0.next k ≡ Ok states.0) (sym long) states.1;
       moves_next = moves.0.next;
-      moves_read = rw (long, long') moves.1;
+      moves_read =
+          subst (λ k. move_cards_at f (length states.0.value) m.0.next k ≡ Ok moves.0) (sym long')
+          (subst (λ k. move_cards_at f k m.0.next m.0.value ≡ Ok moves.0) (sym long) moves.1);
     })
 
 -- what is outlined was taken

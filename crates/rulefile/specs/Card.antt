@@ -1,6 +1,6 @@
 -- What reading a card answers, by the bytes of the file.
 use Rattle.std.specs.Prelude.{ℕ, zero, suc, ◌+◌, ◌-◌, ◌%◌, Bool, cond, not, ◌&&◌, List, length, take, drop, Ok, Err, Result, ◌==◌, nat_le, slice_index}
-use Rattle.std.specs.Borrow.{MutBor}
+use Rattle.std.specs.Borrow.{Bor}
 use Rattle.codec.specs.declared.fault.CardFault.{CardFault}
 use Rattle.codec.specs.declared.fault.CardFault.TheVariants as fault
 use Rattle.codec.specs.declared.read.Read.{Read}
@@ -35,7 +35,7 @@ abbrev pub placed : {A B E : Type 0} → (A → B) → Result (Read A) E → Res
 placed g (Ok n) = Ok (record { value = g n.value; next = n.next })
 placed g (Err e) = Err e
 
-abbrev pub names_of : Result (Read (MutBor (List ℕ))) CardFault → Result (Read (List ℕ)) CardFault
+abbrev pub names_of : Result (Read (Bor (List ℕ))) CardFault → Result (Read (List ℕ)) CardFault
 names_of (Ok n) = Ok (record { value = n.value.now; next = n.next })
 names_of (Err e) = Err e
 

@@ -6,8 +6,8 @@ use Rattle.fitting.specs.Tables.{value_at}
 use Rattle.fitting.proofs.Prices.{on_small, off_small, some_left, few-left}
 use Rattle.fitting.proofs.best.fork_on.Goals as goal
 
-pub invariant-of-price : goal.invariant-of-price
-invariant-of-price g c =
+pub invariant_of-price : goal.invariant_of-price
+invariant_of-price g c =
     let best = value_at c.args.costs.now in
     let cell = c.args.cell in
     let line = c.args.line in

@@ -5,7 +5,7 @@ use Rattle.fitting.proofs.DraftLines.{line-there, no_line_missing}
 use Rattle.fitting.proofs.fit.line_of.Goals as goal
 
 pub unreachable-requires : goal.unreachable-requires
-unreachable-requires c = no_line_missing c.args.draft.now c.args.i c.requires c.in-default.ensures
+unreachable-requires c = no_line_missing c.args.draft.now c.args.i c.requires c.in_default.ensures
 
 pub returns : goal.returns
 returns c = line-there (draft_rule c.args.draft.now).lines c.args.i (line_value c.in-Some.card) c.in-Some.ensures

@@ -8,14 +8,14 @@ returns-then-file-place c = record {
   within = tt;
 }
 
-pub returns-then-not-is-name-byte : goal.returns-then-not-is-name-byte
-returns-then-not-is-name-byte c = record {
-  value = sym (name_byte _ _ _ c.loop-place-test.true c.if-file-place.false (sym c.if-not-is-name-byte.ensures)) ∙ c.loop-place.invariant.0;
+pub returns-then-not-is_name_byte : goal.returns-then-not-is_name_byte
+returns-then-not-is_name_byte c = record {
+  value = sym (name_byte _ _ _ c.loop-place-test.true c.if-file-place.false (sym c.if-not-is_name_byte.ensures)) ∙ c.loop-place.invariant.0;
   within = tt;
 }
 
 pub loop-place-preserved : goal.loop-place-preserved
 loop-place-preserved c = (
-  sym (name_more _ _ _ c.loop-place-test.true c.if-file-place.false (sym c.if-not-is-name-byte.ensures)) ∙ c.loop-place.invariant.0,
+  sym (name_more _ _ _ c.loop-place-test.true c.if-file-place.false (sym c.if-not-is_name_byte.ensures)) ∙ c.loop-place.invariant.0,
   omega arith,
 )

@@ -5,7 +5,7 @@ use Rattle.rulefile.proofs.check.write_moves.Goals as goal
 
 pub unreachable-requires : goal.unreachable-requires
 unreachable-requires c =
-    let bad = row_fault Some (next_move_at c.args.file.now c.args.states) (λ xs. take c.loop-i.i c.loop-i.moves ++ xs) c.loop-i.last _ _ _ _ c.loop-i-test.true (sym c.in-default.ensures) in
+    let bad = row_fault Some (next_move_at c.args.file.now c.args.states) (λ xs. take c.loop-i.i c.loop-i.moves ++ xs) c.loop-i.last _ _ _ _ c.loop-i-test.true (sym c.in_default.ensures) in
     no_fault (move_cards_at c.args.file.now c.args.states c.args.at c.args.count) _ c.requires.good (sym c.loop-i.invariant.0 ∙ bad)
 
 pub loop-i-preserved : goal.loop-i-preserved

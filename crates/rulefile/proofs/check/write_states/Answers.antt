@@ -5,7 +5,7 @@ use Rattle.rulefile.proofs.check.write_states.Goals as goal
 
 pub unreachable-requires : goal.unreachable-requires
 unreachable-requires c =
-    let bad = row_fault {S = Unit {0}} (λ _. tt) (λ _. state_record_at c.args.file.now) (λ xs. take c.loop-i.i c.loop-i.states ++ xs) tt _ _ _ _ c.loop-i-test.true (sym c.in-default.ensures) in
+    let bad = row_fault {S = Unit {0}} (λ _. tt) (λ _. state_record_at c.args.file.now) (λ xs. take c.loop-i.i c.loop-i.states ++ xs) tt _ _ _ _ c.loop-i-test.true (sym c.in_default.ensures) in
     no_fault (state_cards_at c.args.file.now c.args.at c.args.count) _ c.requires.good (sym c.loop-i.invariant.0 ∙ bad)
 
 pub loop-i-preserved : goal.loop-i-preserved

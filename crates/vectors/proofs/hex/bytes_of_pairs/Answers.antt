@@ -4,8 +4,8 @@ use Rattle.vectors.proofs.hex.bytes_of_pairs.Goals as goal
 
 pub loop-i-preserved : goal.loop-i-preserved
 loop-i-preserved c =
-    hex_more _ _ c.args.digits.now c.loop-i.i c.in-ok-high.high c.in-ok-low.low (omega arith)
-    c.in-ok-high.ensures.0 c.in-ok-low.ensures.0 c.in-ok-high.ensures.1 c.in-ok-low.ensures.1
+    hex_more _ _ c.args.digits.now c.loop-i.i c.in_ok-high.high c.in_ok-low.low (omega arith)
+    c.in_ok-high.ensures.0 c.in_ok-low.ensures.0 c.in_ok-high.ensures.1 c.in_ok-low.ensures.1
     c.in-Ok.ensures.items c.loop-i.invariant
 
 pub returns : goal.returns

@@ -9,8 +9,8 @@ pub returns : goal.returns
 returns g c =
     let price = g.M.Measure.price c.args.measure.now in
     let rule = rule_of c.args.draft in
-    let told = c.in-ok-told.told in
-    let (room, fit) = c.in-ok-told.ensures in
+    let told = c.in_ok-told.told in
+    let (room, fit) = c.in_ok-told.ensures in
     let room_after : 4064 ≤ length c.fit.new.nodes = omega (arith, room, c.fit.auto.nodes) in
     record {
       answered = watched price rule c.args.calls.now (lent c.args.nodes.now c.args.answers.now (g.S.LineSource.events c.args.source.now))

@@ -13,8 +13,8 @@ as-set-release-requires c =
     let d = c.of-pruning.result.draft.now in
     release_below (rule_of d) (draft_well d) c.release.result c.release.ensures
 
-pub invariant-of-result : goal.invariant-of-result
-invariant-of-result c =
+pub invariant_of-result : goal.invariant_of-result
+invariant_of-result c =
     let d = c.of-pruning.result.draft.now in
     let same = c.of-pruning.ensures.same in (
       c.lines-of-lines.ensures,

@@ -5,7 +5,7 @@ use Rattle.rulefile.proofs.draft.Draft.line.Goals as goal
 
 pub returns-then-i-lt6 : goal.returns-then-i-lt6
 returns-then-i-lt6 c =
-    ap Some c.line-card.ensures
+    ap Some c.line_card.ensures
     ∙ sym (nth_map (line_in c.args.self.now.file.now) c.args.self.now.lines c.args.i _ (omega (arith, c.args.self.now.six, c.if-i-lt6.true)))
 
 pub returns : goal.returns

@@ -3,9 +3,9 @@ use Rattle.rulefile.specs.File.{file_of, row_from}
 use Rattle.rulefile.specs.Draft.{empty_contents}
 use Rattle.rulefile.proofs.draft.make.empty_draft.Goals as goal
 
-pub invariant-of-result : goal.invariant-of-result
+pub invariant_of-result : goal.invariant_of-result
 unfolding file_of row_from
-invariant-of-result c = (refl, (refl, (refl, (refl, (refl, tt)))))
+invariant_of-result c = record { six = refl; read = refl; line_rows = refl; state_rows = refl; move_rows = refl }
 
 pub returns : goal.returns
 unfolding empty_contents

@@ -7,8 +7,8 @@ invariant_of-result c =
     elim c.match-check_changes.branch [
       | goal.in-Ok w ↦
           let s = begin_sound c.args.bytes.now w.first_run.result w.in-Ok.ensures.fault w.first_run.ensures in
-          simp w.result-is (s.small, (s.whole, (s.ready, tt)))
-      | goal.in-Err w ↦ let s = empty_sound in simp w.result-is (s.small, (s.whole, (s.ready, tt)))
+          simp w.result-is (record { small = s.small; whole = s.whole; ready = s.ready })
+      | goal.in-Err w ↦ let s = empty_sound in simp w.result-is (record { small = s.small; whole = s.whole; ready = s.ready })
     ]
 
 pub returns : goal.returns

@@ -18,8 +18,8 @@ pub invariant_of-self : goal.invariant_of-self
 invariant_of-self c =
     let log = c.args.self.now in
     let sound : Playable log.bytes.now log.run = can_play log.small log.whole log.ready in
-    let s = subst (Playable log.bytes.now) (sym c.run-after-self.ensures) (after_sound log.bytes.now log.run sound) in
-    (s.small, (s.whole, (s.ready, tt)))
+    let s = subst (Playable log.bytes.now) (sym c.run_after-self.ensures) (after_sound log.bytes.now log.run sound) in
+    record { small = s.small; whole = s.whole; ready = s.ready }
 
 pub returns : goal.returns
 returns c =

@@ -6,8 +6,8 @@ use Rattle.sources.proofs.wiring.Wiring.over.Goals as goal
 pub invariant_of-result : goal.invariant_of-result
 invariant_of-result g c =
     elim c.match-check_wiring.branch [
-      | goal.in-Ok w ↦ simp w.result-is ((w.in-Ok.ensures.exact.0 refl).named, tt)
-      | goal.in-Err w ↦ simp w.result-is (straight-named, tt)
+      | goal.in-Ok w ↦ simp w.result-is (record { named = (w.in-Ok.ensures.exact.0 refl).named })
+      | goal.in-Err w ↦ simp w.result-is (record { named = straight-named })
     ]
 
 pub returns : goal.returns

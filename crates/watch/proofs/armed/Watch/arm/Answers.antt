@@ -2,5 +2,5 @@
 use Rattle.std.proofs.Common.{arith}
 use Rattle.watch.proofs.armed.Watch.arm.Goals as goal
 
-pub invariant-of-result : goal.invariant-of-result
-invariant-of-result c = (omega (arith, c.armed-state.ensures.none), (c.armed-state.ensures.states, tt))
+pub invariant_of-result : goal.invariant_of-result
+invariant_of-result c = (omega (arith, c.armed-state.ensures.none), (c.armed-state.ensures.states, tt))

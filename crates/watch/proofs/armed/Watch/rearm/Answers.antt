@@ -3,8 +3,8 @@ use Rattle.std.proofs.Common.{[], refl, arith}
 use Rattle.rules.specs.watch.Calls as calls
 use Rattle.watch.proofs.armed.Watch.rearm.Goals as goal
 
-pub invariant-of-self : goal.invariant-of-self
-invariant-of-self c = (omega (arith, c.armed-state-self.ensures.none), (c.armed-state-self.ensures.states, tt))
+pub invariant_of-self : goal.invariant_of-self
+invariant_of-self c = (omega (arith, c.armed-state-self.ensures.none), (c.armed-state-self.ensures.states, tt))
 
 pub returns : goal.returns
 returns c = record {

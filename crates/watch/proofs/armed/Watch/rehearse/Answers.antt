@@ -10,7 +10,7 @@ use Rattle.watch.proofs.armed.Watch.rehearse.Goals as goal
 
 pub returns-in-default : goal.returns-in-default
 returns-in-default c = record {
-  rehearsed = λ coming. trial_refused c.args.self.now.plan.now c.args.self.now.state c.args.events coming (c.in-default.field-0, c.in-default.is);
+  rehearsed = λ coming. trial_refused c.args.self.now.plan.now c.args.self.now.state c.args.events coming (c.in_default.field-0, c.in_default.is);
   state = refl;
   plan = refl;
 }
@@ -52,7 +52,7 @@ returns-in-BreachAt c =
     }
 
 pub loop-i-preserved : goal.loop-i-preserved
-loop-i-preserved c = (refl, trial-next c, (λ (j, e). c.in-default-verdict.not-BreachAt j e))
+loop-i-preserved c = (refl, trial-next c, (λ (j, e). c.in_default-verdict.not-BreachAt j e))
 
 pub returns : goal.returns
 returns c =

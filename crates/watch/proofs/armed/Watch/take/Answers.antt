@@ -17,7 +17,7 @@ pub returns-in-default : goal.returns-in-default
 returns-in-default g c =
     let p = c.args.self.now.plan.now in
     record {
-      taken = called_take_breached (plan_rule p) (plan_trees p) (plan_sound p) c.args.self.now.state (g.S.LineSource.events c.args.source.now) (c.in-default.field-0, c.in-default.is);
+      taken = called_take_breached (plan_rule p) (plan_trees p) (plan_sound p) c.args.self.now.state (g.S.LineSource.events c.args.source.now) (c.in_default.field-0, c.in_default.is);
       plan = refl;
     }
 
@@ -36,13 +36,13 @@ returns-in-default-waits g c =
     let p = c.args.self.now.plan.now in
     let s = c.args.self.now.state in
     record {
-      taken = subst (λ (l : List ℕ). CalledOn p call.Take s l (answer.Refused refusal.NothingWaits) s l) (sym (none_waits (g.S.LineSource.events c.args.source.now) c.in-default-waits.ensures))
+      taken = subst (λ (l : List ℕ). CalledOn p call.Take s l (answer.Refused refusal.NothingWaits) s l) (sym (none_waits (g.S.LineSource.events c.args.source.now) c.in_default-waits.ensures))
           (called_take_nothing_waits (plan_rule p) (plan_trees p) (plan_sound p) s (lasts s.verdict c.in-Open.is) (omega arith));
       plan = refl;
     }
 
-pub invariant-of-self : goal.invariant-of-self
-invariant-of-self g c =
+pub invariant_of-self : goal.invariant_of-self
+invariant_of-self g c =
     let p = c.args.self.now.plan.now in
     let coming = g.S.LineSource.events c.args.source.now in
     let counted = ap (λ s. s.count) c.after-event-after.ensures in (
