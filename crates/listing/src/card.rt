@@ -71,7 +71,8 @@ fn push_state(text: &mut String, number: usize, card: StateCard) -> Result<(), f
 fn push_move(text: &mut String, step: Move) -> Result<(), fmt::Error>
     ensures { OnOk result (string_bytes text.new ≡ string_bytes text.old ++ move_text step) }
 {
-    writeln!(text, "move {} {} {}", step.from, step.cell, step.to)
+    writeln!(text, "move {} {} {}", step.from, step.cell, step.to)?;
+    Ok(())
 }
 
 // Writes the line of the card with the number `i`.
@@ -94,7 +95,8 @@ pub(crate) fn push_refusal(
     ensures { OnOk result (string_bytes text.new ≡ string_bytes text.old ++ refusal_text number place) }
 {
     match place {
-        None => writeln!(text, "refused {number}"),
-        Some(place) => writeln!(text, "refused {number} at {place}"),
+        None => writeln!(text, "refused {number}")?,
+        Some(place) => writeln!(text, "refused {number} at {place}")?,
     }
+    Ok(())
 }

@@ -4,5 +4,5 @@ use Rattle.pruning.specs.Computed.{Ranged}
 use Rattle.pruning.proofs.DraftLaws.{draft_ranged}
 use Rattle.pruning.proofs.safe_of.Goals as goal
 
-pub safe-states-requires : goal.safe-states-requires
-safe-states-requires c = subst Ranged (sym c.moves.ensures) (draft_ranged c.args.draft.now)
+pub safe_states-requires : goal.safe_states-requires
+safe_states-requires c = subst Ranged (sym c.moves.ensures) (draft_ranged c.args.draft.now)

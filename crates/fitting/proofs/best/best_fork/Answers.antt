@@ -7,7 +7,7 @@ use Rattle.rules.specs.trees.Bests.{fork_price}
 use Rattle.fitting.specs.Tables.{value_at}
 use Rattle.fitting.proofs.Scans.{Upto, upto_take, upto_skip, scanned}
 use Rattle.fitting.proofs.best.best_fork.Goals as goal
-use Rattle.fitting.proofs.best.best_fork.Goals.{then-is-free, else-is-free}
+use Rattle.fitting.proofs.best.best_fork.Goals.{then-is_free, else-is_free}
 
 same_pick : (a b : Pick) (n : ℕ) → a ≡ b → b.line ≡ n → (a.line ≡ n) × (a.cost ≡ b.cost)
 same_pick a b n e is = (ap (λ (p : Pick). p.line) e ∙ is, ap (λ (p : Pick). p.cost) e)
@@ -18,17 +18,17 @@ loop-line-preserved g c =
     let P = λ (j : ℕ). digit c.args.cell j ≡ 0 in
     let n = c.loop-line.line in
     let d = digit c.args.cell n in
-    elim c.if-is-free.branch [
-      | then-is-free w ↦
-          let new = λ (q : w.cheaper-best.result ≡ w.fork-on.result). same_pick c.if-is-free.best w.fork-on.result n (w.best-is ∙ q) w.fork-on.ensures.line in
-          let old = λ (q : w.cheaper-best.result ≡ c.loop-line.best). same_pick c.if-is-free.best c.loop-line.best c.loop-line.best.line (w.best-is ∙ q) refl in
+    elim c.if-is_free.branch [
+      | then-is_free w ↦
+          let new = λ (q : w.cheaper-best.result ≡ w.fork_on.result). same_pick c.if-is_free.best w.fork_on.result n (w.best-is ∙ q) w.fork_on.ensures.line in
+          let old = λ (q : w.cheaper-best.result ≡ c.loop-line.best). same_pick c.if-is_free.best c.loop-line.best c.loop-line.best.line (w.best-is ∙ q) refl in
           upto_take f P n c.loop-line.best.line c.loop-line.best.cost c.loop-line-test.true
-          (eqb→eq d 0 (true_T (eqb d 0) (sym c.is-free.ensures ∙ w.if-is-free.true))) c.loop-line.invariant
-          c.if-is-free.best.line c.if-is-free.best.cost w.fork-on.result.cost w.fork-on.ensures.cost
+          (eqb→eq d 0 (true_T (eqb d 0) (sym c.is_free.ensures ∙ w.if-is_free.true))) c.loop-line.invariant
+          c.if-is_free.best.line c.if-is_free.best.cost w.fork_on.result.cost w.fork_on.ensures.cost
           (λ e. new (w.cheaper-best.ensures.none e)) (λ l. new (w.cheaper-best.ensures.less l)) (λ ne l. old (w.cheaper-best.ensures.same ne l))
-      | else-is-free w ↦
+      | else-is_free w ↦
           let skip = upto_skip f P n c.loop-line.best.line c.loop-line.best.cost
-          (λ z. false_T (eqb d 0) (sym c.is-free.ensures ∙ w.if-is-free.false) (true_T (eqb d 0) (eq-eqb d 0 z))) c.loop-line.invariant in
+          (λ z. false_T (eqb d 0) (sym c.is_free.ensures ∙ w.if-is_free.false) (true_T (eqb d 0) (eq-eqb d 0 z))) c.loop-line.invariant in
           subst (λ (p : Pick). Upto f P (n + 1) p.line p.cost) (sym w.best-is) skip
     ]
 

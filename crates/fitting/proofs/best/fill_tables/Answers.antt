@@ -10,8 +10,8 @@ pub loop-cell-init : goal.loop-cell-init
 loop-cell-init g c =
     filled_none (g.M.Measure.price c.args.measure.now) c.args.lines.now (value_at c.args.sets.now) c.args.costs.now c.args.chosen.now c.told-costs c.told-chosen
 
-pub pick-in-best-requires : goal.pick-in-best-requires
-pick-in-best-requires g c =
+pub pick_in-best-requires : goal.pick_in-best-requires
+pick_in-best-requires g c =
     let price = g.M.Measure.price c.args.measure.now in
     let lines = c.args.lines.now in
     let k = c.loop-cell.cell - 1 in
@@ -35,7 +35,7 @@ loop-cell-preserved g c =
     let low : k < 729 = omega (arith, c.loop-cell.auto.cell) in
     filled_more price lines (value_at c.args.sets.now) c.loop-cell.costs c.loop-cell.chosen k
     (subst (Filled price lines (value_at c.args.sets.now) c.loop-cell.costs c.loop-cell.chosen) next c.loop-cell.invariant) low
-    c.pick-in-best.result.line c.pick-in-best.result.cost c.pick-in-best.ensures
+    c.pick_in-best.result.line c.pick_in-best.result.cost c.pick_in-best.ensures
 
 pub returns : goal.returns
 returns g c =

@@ -24,7 +24,7 @@ invariant_of-price g c =
               few-left best cell line u c.requires.small c.requires.cell c.requires.free c.requires.count,
               (
                 on_small best cell line u c.requires.small c.requires.cell c.requires.free c.requires.count c.on_cell_lem.result c.on_cell_lem.ensures.is,
-                (off_small best cell line u c.requires.small c.requires.cell c.requires.free c.requires.count c.off-cell.result c.off-cell.ensures.is, tt),
+                (off_small best cell line u c.requires.small c.requires.cell c.requires.free c.requires.count c.off_cell.result c.off_cell.ensures.is, tt),
               ),
             ),
           ),

@@ -13,10 +13,10 @@ varies_some wants cell varies = go (eq-zero-or-pos (free_in cell))
     go (inl z) = absurd (varies (full-constant wants cell z))
     go (inr p) = p
 
-pub best-fork-requires : goal.best-fork-requires
-best-fork-requires g c = record {
+pub best_fork-requires : goal.best_fork-requires
+best_fork-requires g c = record {
   lines = c.requires.lines;
   cell = c.requires.cell;
   small = c.requires.small;
-  some = varies_some (value_at c.args.sets.now) c.args.cell (c.is-constant.ensures.other c.if-is-constant.false);
+  some = varies_some (value_at c.args.sets.now) c.args.cell (c.is_constant.ensures.other c.if-is_constant.false);
 }

@@ -9,15 +9,15 @@ use Rattle.fitting.proofs.cells.free_lines.Goals.{then-rest-eq0, else-rest-eq0}
 pub loop-init : goal.loop-init
 loop-init c = (sym (div-one c.args.cell), refl)
 
-pub overflow-add-count : goal.overflow-add-count
-overflow-add-count c = record { fits = omega (arith, c.loop.invariant.1, count_le c.loop.counter (λ line. eqb (digit c.args.cell line) 0), c.loop-test.true) }
+pub overflow_add-count : goal.overflow_add-count
+overflow_add-count c = record { fits = omega (arith, c.loop.invariant.1, count_le c.loop.counter (λ line. eqb (digit c.args.cell line) 0), c.loop-test.true) }
 
 pub loop-preserved : goal.loop-preserved
 loop-preserved c =
     let rest = next-digit c.args.cell c.loop.counter c.loop.rest c.loop.invariant.0 in
     elim c.if-rest-eq0.branch [
-      | then-rest-eq0 w ↦ (rest, w.count_is ∙ count_free c.args.cell c.loop.counter c.loop.rest c.loop.count c.loop.invariant.0 c.loop.invariant.1 w.if-rest-eq0.true)
-      | else-rest-eq0 w ↦ (rest, w.count_is ∙ count_fixed c.args.cell c.loop.counter c.loop.rest c.loop.count c.loop.invariant.0 c.loop.invariant.1 w.if-rest-eq0.false)
+      | then-rest-eq0 w ↦ (rest, w.count-is ∙ count_free c.args.cell c.loop.counter c.loop.rest c.loop.count c.loop.invariant.0 c.loop.invariant.1 w.if-rest-eq0.true)
+      | else-rest-eq0 w ↦ (rest, w.count-is ∙ count_fixed c.args.cell c.loop.counter c.loop.rest c.loop.count c.loop.invariant.0 c.loop.invariant.1 w.if-rest-eq0.false)
     ]
 
 pub returns : goal.returns

@@ -3,8 +3,8 @@ use Rattle.std.proofs.Common.{ℕ, ◌+◌, ◌<◌, sym, ap, subst, arith}
 use Rattle.rules.proofs.trees.BestLaws.{on_below}
 use Rattle.fitting.proofs.cells.on_cell.Goals as goal
 
-pub overflow-add-result : goal.overflow-add-result
-overflow-add-result c = record { fits = omega (arith, c.weight.ensures, (on_below c.args.cell c.args.line c.requires.cell c.requires.free).low) }
+pub overflow_add-result : goal.overflow_add-result
+overflow_add-result c = record { fits = omega (arith, c.weight.ensures, (on_below c.args.cell c.args.line c.requires.cell c.requires.free).low) }
 
 pub returns : goal.returns
 returns c =

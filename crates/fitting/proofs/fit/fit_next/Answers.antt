@@ -9,8 +9,8 @@ use Rattle.fitting.specs.States.{StateFitted}
 use Rattle.fitting.proofs.AllStates.{next-fitted}
 use Rattle.fitting.proofs.fit.fit_next.Goals as goal
 
-pub fit-state-requires : goal.fit-state-requires
-fit-state-requires g c = record {
+pub fit_state-requires : goal.fit_state-requires
+fit_state-requires g c = record {
   lines = subst (All LineInRange) (sym c.requires.lines) c.requires.well.lines_fit;
   room = c.requires.room;
   low = c.requires.low;
@@ -19,8 +19,8 @@ fit-state-requires g c = record {
 pub returns : goal.returns
 returns g c =
     next-fitted (g.M.Measure.price c.args.measure.now) (rule_of c.args.pruning.now.draft.now) c.args.state (value_at c.sets-sets.result) c.args.place
-    c.args.nodes.now c.fit-state.new.nodes c.fit-state.result.behind c.fit-state.result.cost
+    c.args.nodes.now c.fit_state.new.nodes c.fit_state.result.behind c.fit_state.result.cost
     (record { rises = g.met.M.Measure.rises c.args.measure.now; bounded = g.met.M.Measure.bounded c.args.measure.now })
     c.requires.well c.sets-sets.ensures.pruned
     (subst (λ (ls : List Line). StateFitted (g.M.Measure.price c.args.measure.now) ls (value_at c.sets-sets.result) c.args.place
-    c.args.nodes.now c.fit-state.new.nodes c.fit-state.result.behind c.fit-state.result.cost) c.requires.lines c.fit-state.ensures)
+    c.args.nodes.now c.fit_state.new.nodes c.fit_state.result.behind c.fit_state.result.cost) c.requires.lines c.fit_state.ensures)

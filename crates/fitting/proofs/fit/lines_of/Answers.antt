@@ -9,7 +9,7 @@ pub loop-i-init : goal.loop-i-init
 loop-i-init c = copied_none (rule_of c.args.draft.now).lines _ refl
 
 pub loop-i-preserved : goal.loop-i-preserved
-loop-i-preserved c = copied_more (rule_of c.args.draft.now).lines c.loop-i.lines c.loop-i.i c.line-of.result c.loop-i-test.true c.loop-i.invariant c.line-of.ensures
+loop-i-preserved c = copied_more (rule_of c.args.draft.now).lines c.loop-i.lines c.loop-i.i c.line_of.result c.loop-i-test.true c.loop-i.invariant c.line_of.ensures
 
 pub returns : goal.returns
 returns c =

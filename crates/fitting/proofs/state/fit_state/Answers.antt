@@ -9,21 +9,21 @@ use Rattle.fitting.specs.Tables.{value_at}
 use Rattle.fitting.proofs.StateLaws.{state-fitted}
 use Rattle.fitting.proofs.state.fit_state.Goals as goal
 
-pub write-tree-behind-requires : goal.write-tree-behind-requires
-write-tree-behind-requires g c =
+pub write_tree-behind-requires : goal.write_tree-behind-requires
+write_tree-behind-requires g c =
     let whole : 2 ^ suc (free_in 0) ≡ 128 = ap (λ (n : ℕ). 2 ^ suc n) free-whole in
     record {
       cell = omega arith;
-      chosen = c.fill-tables.ensures.chosen;
+      chosen = c.fill_tables.ensures.chosen;
       room = omega (arith, c.requires.room, whole);
       low = omega (arith, c.requires.low, whole);
     }
 
 pub returns : goal.returns
 returns g c =
-    subst₂ (StateFitted (g.M.Measure.price c.args.measure.now) c.args.lines.now (value_at c.args.sets.now) c.args.place c.args.nodes.now c.write-tree-behind.new.nodes)
+    subst₂ (StateFitted (g.M.Measure.price c.args.measure.now) c.args.lines.now (value_at c.args.sets.now) c.args.place c.args.nodes.now c.write_tree-behind.new.nodes)
     (sym c.told.ensures.behind) (sym c.told.ensures.cost)
-    (state-fitted (g.M.Measure.price c.args.measure.now) c.args.lines.now (value_at c.args.sets.now) (value_at c.fill-tables.new.costs) (value_at c.fill-tables.new.chosen)
+    (state-fitted (g.M.Measure.price c.args.measure.now) c.args.lines.now (value_at c.args.sets.now) (value_at c.fill_tables.new.costs) (value_at c.fill_tables.new.chosen)
     (record { rises = g.met.M.Measure.rises c.args.measure.now; bounded = g.met.M.Measure.bounded c.args.measure.now })
     (λ i l. All-get_or LineInRange c.args.lines.now i (record { cost = 0; chance = 0 }) (omega (arith, c.told-lines)) c.requires.lines)
-    c.fill-tables.ensures.bests c.args.place c.args.nodes.now c.write-tree-behind.new.nodes c.write-tree-behind.result c.requires.room c.write-tree-behind.ensures)
+    c.fill_tables.ensures.bests c.args.place c.args.nodes.now c.write_tree-behind.new.nodes c.write_tree-behind.result c.requires.room c.write_tree-behind.ensures)

@@ -15,8 +15,8 @@ returns-then-line-ge-LINES t c =
     subst (λ (n : Node). Written wants line c.args.cell c.args.place c.args.nodes.now (set c.args.nodes.now c.args.place n) (c.args.place + 1)) (sym c.leaf.ensures)
     (leaf_written wants line c.requires.chosen c.args.cell c.requires.cell c.if-line-ge-LINES.true c.args.nodes.now c.args.place)
 
-pub write-tree-off-requires : goal.write-tree-off-requires
-write-tree-off-requires t c =
+pub write_tree-off-requires : goal.write_tree-off-requires
+write_tree-off-requires t c =
     let wants = value_at c.args.sets.now in
     let line = value_at c.args.chosen.now in
     let fewer = on_fewer wants line c.requires.chosen c.args.cell c.requires.cell c.if-line-ge-LINES.false c.on_cell_lem.result c.on_cell_lem.ensures.is in
@@ -26,21 +26,21 @@ write-tree-off-requires t c =
       (c.on_cell_lem.ensures.low, (c.requires.chosen, (omega (arith, c.requires.room, half, some), omega (arith, c.requires.low, half, some)))),
     )
 
-pub write-tree-end-requires : goal.write-tree-end-requires
-write-tree-end-requires t c =
+pub write_tree-end-requires : goal.write_tree-end-requires
+write_tree-end-requires t c =
     let wants = value_at c.args.sets.now in
     let line = value_at c.args.chosen.now in
     let on = on_fewer wants line c.requires.chosen c.args.cell c.requires.cell c.if-line-ge-LINES.false c.on_cell_lem.result c.on_cell_lem.ensures.is in
-    let off = off_fewer wants line c.requires.chosen c.args.cell c.requires.cell c.if-line-ge-LINES.false c.off-cell.result c.off-cell.ensures.is in
+    let off = off_fewer wants line c.requires.chosen c.args.cell c.requires.cell c.if-line-ge-LINES.false c.off_cell.result c.off_cell.ensures.is in
     let on-half = half_room wants line c.requires.chosen c.args.cell c.requires.cell c.on_cell_lem.result on in
-    let off-half = half_room wants line c.requires.chosen c.args.cell c.requires.cell c.off-cell.result off in
-    let written = c.write-tree-off.ensures in (
+    let off-half = half_room wants line c.requires.chosen c.args.cell c.requires.cell c.off_cell.result off in
+    let written = c.write_tree-off.ensures in (
       omega (arith, off, c.decreases),
       (
-        c.off-cell.ensures.low,
+        c.off_cell.ensures.low,
         (
           c.requires.chosen,
-          (omega (arith, c.requires.room, on-half, off-half, written.end, written.small, c.write-tree-off.auto.nodes), omega (arith, c.requires.low, on-half, off-half, written.end, written.small)),
+          (omega (arith, c.requires.room, on-half, off-half, written.end, written.small, c.write_tree-off.auto.nodes), omega (arith, c.requires.low, on-half, off-half, written.end, written.small)),
         ),
       ),
     )
@@ -52,14 +52,14 @@ fork-requires t c =
     let on = on_fewer wants line c.requires.chosen c.args.cell c.requires.cell c.if-line-ge-LINES.false c.on_cell_lem.result c.on_cell_lem.ensures.is in
     let half = half_room wants line c.requires.chosen c.args.cell c.requires.cell c.on_cell_lem.result on in
     let some = pow_pos (suc (free_in c.on_cell_lem.result)) in
-    let written = c.write-tree-off.ensures in
+    let written = c.write_tree-off.ensures in
     record { place = omega (arith, c.requires.low, half, written.small); off = omega (arith, c.requires.low, half, written.end, written.small) }
 
 pub returns : goal.returns
 returns t c =
     let wants = value_at c.args.sets.now in
     let line = value_at c.args.chosen.now in
-    subst (λ (n : Node). Written wants line c.args.cell c.args.place c.args.nodes.now (set c.write-tree-end.new.nodes c.args.place n) c.write-tree-end.result) (sym c.fork.ensures)
-    (fork_written wants line c.requires.chosen c.args.cell c.requires.cell c.if-line-ge-LINES.false c.args.place c.write-tree-off.result c.write-tree-end.result
-    c.on_cell_lem.result c.off-cell.result c.args.nodes.now c.write-tree-off.new.nodes c.write-tree-end.new.nodes
-    c.on_cell_lem.ensures.is c.off-cell.ensures.is c.write-tree-off.ensures c.write-tree-end.ensures)
+    subst (λ (n : Node). Written wants line c.args.cell c.args.place c.args.nodes.now (set c.write_tree-end.new.nodes c.args.place n) c.write_tree-end.result) (sym c.fork.ensures)
+    (fork_written wants line c.requires.chosen c.args.cell c.requires.cell c.if-line-ge-LINES.false c.args.place c.write_tree-off.result c.write_tree-end.result
+    c.on_cell_lem.result c.off_cell.result c.args.nodes.now c.write_tree-off.new.nodes c.write_tree-end.new.nodes
+    c.on_cell_lem.ensures.is c.off_cell.ensures.is c.write_tree-off.ensures c.write_tree-end.ensures)

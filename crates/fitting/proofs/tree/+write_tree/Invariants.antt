@@ -2,5 +2,5 @@
 use Rattle.events.specs.Cells.{free_in}
 use Rattle.fitting.proofs.tree.+write_tree.Given as goal
 
-abbrev pub decreases-write-tree : goal.decreases-write-tree
-decreases-write-tree l = free_in l.cell
+abbrev pub decreases-write_tree : goal.decreases-write_tree
+decreases-write_tree l = free_in l.cell

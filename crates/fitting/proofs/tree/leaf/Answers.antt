@@ -4,8 +4,8 @@ use Rattle.rules.specs.declared.Node.TheVariants as node
 use Rattle.events.proofs.CellLaws.{lowest-small}
 use Rattle.fitting.proofs.tree.leaf.Goals as goal
 
-pub bounds-sets-lowest-event : goal.bounds-sets-lowest-event
-bounds-sets-lowest-event c = omega (arith, lowest-small c.args.cell, c.lowest-event.ensures.found c.requires)
+pub bounds-sets-lowest_event : goal.bounds-sets-lowest_event
+bounds-sets-lowest_event c = omega (arith, lowest-small c.args.cell, c.lowest_event.ensures.found c.requires)
 
 pub returns : goal.returns
-returns c = ap (λ (e : ℕ). node.Leaf (get_or c.args.sets.now e 0)) (c.lowest-event.ensures.found c.requires)
+returns c = ap (λ (e : ℕ). node.Leaf (get_or c.args.sets.now e 0)) (c.lowest_event.ensures.found c.requires)

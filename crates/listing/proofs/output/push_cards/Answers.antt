@@ -7,11 +7,11 @@ use Rattle.listing.proofs.output.push_cards.Goals as goal
 
 pub loop-i-preserved : goal.loop-i-preserved
 loop-i-preserved c =
-    card_more (string_bytes c.loop-i.text) (string_bytes c.push-card.new.text) _ (cards_of (draft_rule c.args.draft.now)) c.loop-i.i (card_value c.in-Some.card) c.in-Some.ensures c.loop-i.invariant
-    c.in_ok-push-card.ensures
+    card_more (string_bytes c.loop-i.text) (string_bytes c.push_card.new.text) _ (cards_of (draft_rule c.args.draft.now)) c.loop-i.i (card_value c.in-Some.card) c.in-Some.ensures c.loop-i.invariant
+    c.in_ok-push_card.ensures
 
-pub returns-in-default : goal.returns-in-default
-returns-in-default c =
+pub returns-in_default : goal.returns-in_default
+returns-in_default c =
     cards_end (string_bytes c.loop-i.text) _ (cards_of (draft_rule c.args.draft.now)) c.loop-i.i c.in_default.ensures c.loop-i.invariant
 
 pub returns : goal.returns

@@ -4,6 +4,6 @@ use Rattle.listing.proofs.output.push_rule.Goals as goal
 
 pub returns-in-Ok : goal.returns-in-Ok
 returns-in-Ok c =
-    taken_text c.push-checked.result c.args.rule.now (string_bytes c.args.text.now) (string_bytes c.push-checked.new.text) _
+    taken_text c.push_checked.result c.args.rule.now (string_bytes c.args.text.now) (string_bytes c.push_checked.new.text) _
     (replicate 32 (record { state = record { start = false; accepting = false }; name = record { at = 0; len = 0 } })) _ (replicate 1024 (record { from = 0; cell = 0; to = 0 })) _ _ c.in-Ok.ensures.result
-    c.in-Ok.ensures.states c.in-Ok.ensures.moves c.push-checked.ensures
+    c.in-Ok.ensures.states c.in-Ok.ensures.moves c.push_checked.ensures

@@ -7,8 +7,8 @@ use Rattle.pruning.proofs.SafeLaws.{safe_state}
 use Rattle.pruning.proofs.SelectLaws.{pruned_safe, pruned_live, pruned_dead}
 use Rattle.pruning.proofs.Pruning.pruned_set.Goals as goal
 
-pub released-set-requires : goal.released-set-requires
-released-set-requires c =
+pub released_set-requires : goal.released_set-requires
+released_set-requires c =
     let p = c.args.self.now in
     let d = p.draft.now in
     safe_state (rule_of d) (draft_well d) p.safe c.args.state p.safe_is (sym c.holds.ensures ∙ c.if-holds.true)
@@ -16,16 +16,16 @@ released-set-requires c =
 pub returns-then-holds : goal.returns-then-holds
 returns-then-holds c =
     let p = c.args.self.now in
-    pruned_safe (rule_of p.draft.now) p.safe c.args.state c.args.event _ p.safe_is (sym c.holds.ensures ∙ c.if-holds.true) c.released-set.ensures
+    pruned_safe (rule_of p.draft.now) p.safe c.args.state c.args.event _ p.safe_is (sym c.holds.ensures ∙ c.if-holds.true) c.released_set.ensures
 
-pub selected-kept-requires : goal.selected-kept-requires
-selected-kept-requires c = record { ranged = subst Ranged (sym c.moves.ensures) (draft_ranged c.args.self.now.draft.now); event = c.requires }
+pub selected_kept-requires : goal.selected_kept-requires
+selected_kept-requires c = record { ranged = subst Ranged (sym c.moves.ensures) (draft_ranged c.args.self.now.draft.now); event = c.requires }
 
 pub returns-then-holds-2 : goal.returns-then-holds-2
 returns-then-holds-2 c =
     let p = c.args.self.now in
     pruned_live (rule_of p.draft.now) p.live p.safe c.args.state c.args.event _ p.live_is p.safe_is (sym c.holds.ensures ∙ c.if-holds.false) (sym c.holds-2.ensures ∙ c.if-holds-2.true)
-    _ c.moves.ensures c.selected-kept.ensures
+    _ c.moves.ensures c.selected_kept.ensures
 
 pub returns : goal.returns
 returns c =

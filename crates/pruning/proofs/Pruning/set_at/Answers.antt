@@ -9,7 +9,7 @@ use Rattle.pruning.proofs.Pruning.set_at.Goals as goal
 pub returns-then-event-lt64 : goal.returns-then-event-lt64
 returns-then-event-lt64 c =
     let d = c.args.self.now.draft.now in
-    let is = subst (IsPrunedSet (rule_of d) c.args.state c.args.event) (sym c.pruned-set.ensures) (pruned_right (rule_of d) (draft_well d) c.args.state c.args.event) in
+    let is = subst (IsPrunedSet (rule_of d) c.args.state c.args.event) (sym c.pruned_set.ensures) (pruned_right (rule_of d) (draft_well d) c.args.state c.args.event) in
     record {
       pruned = λ _. is;
       none = λ h. absurd (omega arith);

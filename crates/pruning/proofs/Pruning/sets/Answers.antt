@@ -9,6 +9,6 @@ use Rattle.pruning.proofs.Pruning.sets.Goals as goal
 pub returns : goal.returns
 returns c =
     let d = c.args.self.now.draft.now in
-    let is : (e : ℕ) → e < 64 → IsPrunedSet (rule_of d) c.args.state e (get_or c.pruned-sets.result e 0) =
-    λ e l. subst (IsPrunedSet (rule_of d) c.args.state e) (sym (c.pruned-sets.ensures e l)) (pruned_right (rule_of d) (draft_well d) c.args.state e) in
+    let is : (e : ℕ) → e < 64 → IsPrunedSet (rule_of d) c.args.state e (get_or c.pruned_sets.result e 0) =
+    λ e l. subst (IsPrunedSet (rule_of d) c.args.state e) (sym (c.pruned_sets.ensures e l)) (pruned_right (rule_of d) (draft_well d) c.args.state e) in
     record { pruned = is; past = λ h e l. pruned_past (rule_of d) (draft_well d) c.args.state e _ h (is e l) }

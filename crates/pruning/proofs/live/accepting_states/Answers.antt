@@ -11,7 +11,7 @@ loop-q-init c = put_none _
 pub loop-q-preserved : goal.loop-q-preserved
 loop-q-preserved c =
     put_more _ c.loop-q.q c.loop-q.set _ _ c.loop-q.invariant
-    (ap (λ s. s.accepting) (sym (get_or-map (λ r. r.state) c.args.states.now c.loop-q.q _ _ c.loop-q-test.true))) c.put-if-set.ensures
+    (ap (λ s. s.accepting) (sym (get_or-map (λ r. r.state) c.args.states.now c.loop-q.q _ _ c.loop-q-test.true))) c.put_if-set.ensures
 
 pub returns : goal.returns
 unfolding accepting

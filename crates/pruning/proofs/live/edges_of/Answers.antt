@@ -8,13 +8,13 @@ use Rattle.pruning.proofs.live.edges_of.Goals as goal
 pub loop-m-init : goal.loop-m-init
 loop-m-init c = edges_none
 
-pub add-edge-requires : goal.add-edge-requires
-add-edge-requires c = All-get_or InRange c.args.moves.now c.loop-m.m-index _ c.loop-m-test.true c.requires
+pub add_edge-requires : goal.add_edge-requires
+add_edge-requires c = All-get_or InRange c.args.moves.now c.loop-m.m-index _ c.loop-m-test.true c.requires
 
 pub loop-m-preserved : goal.loop-m-preserved
 loop-m-preserved c =
     edges_more c.args.moves.now c.loop-m.m-index _ (record { from = 0; cell = 0; to = 0 }) c.loop-m.edges _ c.loop-m-test.true refl
-    (All-get_or InRange c.args.moves.now c.loop-m.m-index _ c.loop-m-test.true c.requires) c.loop-m.invariant c.add-edge.ensures
+    (All-get_or InRange c.args.moves.now c.loop-m.m-index _ c.loop-m-test.true c.requires) c.loop-m.invariant c.add_edge.ensures
 
 pub returns : goal.returns
 returns c = edges_all c.args.moves.now c.loop-m.m-index c.loop-m.edges c.loop-m-test.false c.loop-m.invariant

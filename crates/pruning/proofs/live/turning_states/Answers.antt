@@ -8,7 +8,7 @@ pub loop-q-init : goal.loop-q-init
 loop-q-init c = put_none _
 
 pub loop-q-preserved : goal.loop-q-preserved
-loop-q-preserved c = put_more _ _ _ _ _ c.loop-q.invariant c.turns.ensures c.put-if-set.ensures
+loop-q-preserved c = put_more _ _ _ _ _ c.loop-q.invariant c.turns.ensures c.put_if-set.ensures
 
 pub returns : goal.returns
 unfolding turning

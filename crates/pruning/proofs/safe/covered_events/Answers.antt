@@ -4,7 +4,7 @@ use Rattle.std.proofs.ByRecursion.{All-get_or}
 use Rattle.pruning.specs.Computed.{InRange}
 use Rattle.pruning.proofs.LoopLaws.{in_cell, covering_none, covering_add, covering_skip, covering_all}
 use Rattle.pruning.proofs.safe.covered_events.Goals as goal
-use Rattle.pruning.proofs.safe.covered_events.Goals.{then-goes-into, else-goes-into}
+use Rattle.pruning.proofs.safe.covered_events.Goals.{then-goes_into, else-goes_into}
 
 pub loop-m-init : goal.loop-m-init
 loop-m-init c = covering_none c.args.state c.args.set
@@ -12,15 +12,15 @@ loop-m-init c = covering_none c.args.state c.args.set
 pub loop-m-preserved : goal.loop-m-preserved
 loop-m-preserved c =
     let range = All-get_or InRange c.args.moves.now c.loop-m.m-index (record { from = 0; cell = 0; to = 0 }) c.loop-m-test.true c.requires in
-    elim c.if-goes-into.branch [
-      | then-goes-into w ↦
+    elim c.if-goes_into.branch [
+      | then-goes_into w ↦
           simp w.events-is
           (covering_add c.args.moves.now c.loop-m.m-index _ (record { from = 0; cell = 0; to = 0 }) c.args.state c.args.set c.loop-m.events c.loop-m-test.true refl c.loop-m.invariant
-          w.events-of-events.result w.events-of-events.type_inv (sym c.goes-into.ensures ∙ w.if-goes-into.true) (in_cell _ _ range.on_cell_lem w.events-of-events.ensures.covered))
-      | else-goes-into w ↦
+          w.events_of-events.result w.events_of-events.type_inv (sym c.goes_into.ensures ∙ w.if-goes_into.true) (in_cell _ _ range.on_cell_lem w.events_of-events.ensures.covered))
+      | else-goes_into w ↦
           simp w.events-is
           (covering_skip c.args.moves.now c.loop-m.m-index _ (record { from = 0; cell = 0; to = 0 }) c.args.state c.args.set c.loop-m.events c.loop-m-test.true refl c.loop-m.invariant
-          (sym c.goes-into.ensures ∙ w.if-goes-into.false))
+          (sym c.goes_into.ensures ∙ w.if-goes_into.false))
     ]
 
 pub returns : goal.returns

@@ -8,7 +8,7 @@ pub loop-q-init : goal.loop-q-init
 loop-q-init c = put_none _
 
 pub loop-q-preserved : goal.loop-q-preserved
-loop-q-preserved c = put_more _ _ _ _ _ c.loop-q.invariant c.stays.ensures c.put-if-next.ensures
+loop-q-preserved c = put_more _ _ _ _ _ c.loop-q.invariant c.stays.ensures c.put_if-next.ensures
 
 pub returns : goal.returns
 unfolding kept

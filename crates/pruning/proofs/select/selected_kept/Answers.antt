@@ -19,7 +19,7 @@ selects-requires c =
 pub only-set-requires : goal.only-set-requires
 only-set-requires c =
     let kept = (and_parts _ _ (and_parts _ _ (sym c.selects.ensures ∙ c.if-selects.true)).0).1 in
-    subst (λ (n : ℕ). n < 32) (sym (stands _ _ _ _ c.stand-in.ensures c.lowest-release.ensures)) (stand_below c.args.live c.args.safe _ c.ranges.live.fits kept)
+    subst (λ (n : ℕ). n < 32) (sym (stands _ _ _ _ c.stand_in.ensures c.lowest-release.ensures)) (stand_below c.args.live c.args.safe _ c.ranges.live.fits kept)
 
 pub loop-m-preserved : goal.loop-m-preserved
 loop-m-preserved c =
@@ -29,7 +29,7 @@ loop-m-preserved c =
           w.set-is
           ∙ selected_add c.args.live c.args.safe release c.args.state c.args.moves.now c.loop-m.m-index _ (record { from = 0; cell = 0; to = 0 }) c.args.event c.loop-m.set c.loop-m-test.true refl c.loop-m.invariant
           (sym c.selects.ensures ∙ w.if-selects.true) w.only-set.result
-          (w.only-set.ensures ∙ ap (λ (n : ℕ). 2 ^ n) (stands _ _ _ _ w.stand-in.ensures c.lowest-release.ensures))
+          (w.only-set.ensures ∙ ap (λ (n : ℕ). 2 ^ n) (stands _ _ _ _ w.stand_in.ensures c.lowest-release.ensures))
       | else-selects w ↦
           w.set-is
           ∙ selected_skip c.args.live c.args.safe release c.args.state c.args.moves.now c.loop-m.m-index _ (record { from = 0; cell = 0; to = 0 }) c.args.event c.loop-m.set c.loop-m-test.true refl c.loop-m.invariant

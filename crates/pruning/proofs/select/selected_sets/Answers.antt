@@ -9,7 +9,7 @@ use Rattle.pruning.specs.Computed.{InRange}
 use Rattle.pruning.proofs.LoopLaws.{in_cell}
 use Rattle.pruning.proofs.SelectLaws.{selected_none, gathered_add, gathered_skip, selected_all, stands, stand_below}
 use Rattle.pruning.proofs.select.selected_sets.Goals as goal
-use Rattle.pruning.proofs.select.selected_sets.Goals.{then-is-kept, else-is-kept}
+use Rattle.pruning.proofs.select.selected_sets.Goals.{then-is_kept, else-is_kept}
 
 pub loop-m-init : goal.loop-m-init
 loop-m-init c =
@@ -17,30 +17,30 @@ loop-m-init c =
 
 pub only-target-requires : goal.only-target-requires
 only-target-requires c =
-    let kept = (and_parts _ _ (sym c.is-kept.ensures ∙ c.if-is-kept.true)).1 in
-    subst (λ (n : ℕ). n < 32) (sym (stands _ _ _ _ c.stand-in.ensures c.lowest-release.ensures)) (stand_below c.args.live c.args.safe _ c.ranges.live.fits kept)
+    let kept = (and_parts _ _ (sym c.is_kept.ensures ∙ c.if-is_kept.true)).1 in
+    subst (λ (n : ℕ). n < 32) (sym (stands _ _ _ _ c.stand_in.ensures c.lowest-release.ensures)) (stand_below c.args.live c.args.safe _ c.ranges.live.fits kept)
 
 pub loop-m-preserved : goal.loop-m-preserved
 loop-m-preserved c =
     let release = count_trailing_zeros 32 c.args.safe in
     let range = All-get_or InRange c.args.moves.now c.loop-m.m-index (record { from = 0; cell = 0; to = 0 }) c.loop-m-test.true c.requires in
-    elim c.if-is-kept.branch [
-      | then-is-kept w ↦ (
-        ap length w.sets-is ∙ w.add-to-covered.ensures.long,
+    elim c.if-is_kept.branch [
+      | then-is_kept w ↦ (
+        ap length w.sets-is ∙ w.add_to_covered.ensures.long,
         λ e l.
             ap (λ (xs : List ℕ). get_or xs e 0) w.sets-is
             ∙ gathered_add c.args.live c.args.safe release c.args.state c.args.moves.now c.loop-m.m-index _ (record { from = 0; cell = 0; to = 0 }) e (get_or c.loop-m.sets e 0) c.loop-m-test.true refl (c.loop-m.invariant.1 e l)
-            (sym c.is-kept.ensures ∙ w.if-is-kept.true) w.only-target.result
-            (w.only-target.ensures ∙ ap (λ (n : ℕ). 2 ^ n) (stands _ _ _ _ w.stand-in.ensures c.lowest-release.ensures))
-            _ (w.add-to-covered.ensures.added e l
-            ∙ ap (λ (b : Bool). cond b (bit_or (get_or c.loop-m.sets e 0) w.only-target.result) (get_or c.loop-m.sets e 0)) (in_cell _ _ range.on_cell_lem w.events-of.ensures.covered e l)),
+            (sym c.is_kept.ensures ∙ w.if-is_kept.true) w.only-target.result
+            (w.only-target.ensures ∙ ap (λ (n : ℕ). 2 ^ n) (stands _ _ _ _ w.stand_in.ensures c.lowest-release.ensures))
+            _ (w.add_to_covered.ensures.added e l
+            ∙ ap (λ (b : Bool). cond b (bit_or (get_or c.loop-m.sets e 0) w.only-target.result) (get_or c.loop-m.sets e 0)) (in_cell _ _ range.on_cell_lem w.events_of.ensures.covered e l)),
       )
-      | else-is-kept w ↦ (
+      | else-is_kept w ↦ (
         ap length w.sets-is ∙ c.loop-m.invariant.0,
         λ e l.
             ap (λ (xs : List ℕ). get_or xs e 0) w.sets-is
             ∙ gathered_skip c.args.live c.args.safe release c.args.state c.args.moves.now c.loop-m.m-index _ (record { from = 0; cell = 0; to = 0 }) e (get_or c.loop-m.sets e 0) c.loop-m-test.true refl (c.loop-m.invariant.1 e l)
-            (sym c.is-kept.ensures ∙ w.if-is-kept.false),
+            (sym c.is_kept.ensures ∙ w.if-is_kept.false),
       )
     ]
 

@@ -14,9 +14,9 @@ returns g c =
     let room_after : 4064 ≤ length c.fit.new.nodes = omega (arith, room, c.fit.auto.nodes) in
     record {
       answered = watched price rule c.args.calls.now (lent c.args.nodes.now c.args.answers.now (g.S.LineSource.events c.args.source.now))
-          (lent c.fit.new.nodes c.watch-calls-made.new.answers (g.S.LineSource.events c.watch-calls-made.new.source)) told c.watch-calls-made.result c.make-plan-plan.result
+          (lent c.fit.new.nodes c.watch_calls-made.new.answers (g.S.LineSource.events c.watch_calls-made.new.source)) told c.watch_calls-made.result c.make_plan-plan.result
           room fit (g.S.LineSource.small c.args.source.now)
-          (c.make-plan-plan.ensures.taken told (just_fitted price rule c.args.nodes.now c.fit.new.nodes told room_after fit)).1
-          c.watch-calls-made.ensures.made c.watch-calls-made.ensures.called c.watch-calls-made.ensures.rest;
+          (c.make_plan-plan.ensures.taken told (just_fitted price rule c.args.nodes.now c.fit.new.nodes told room_after fit)).1
+          c.watch_calls-made.ensures.made c.watch_calls-made.ensures.called c.watch_calls-made.ensures.rest;
       refused = λ e. absurd (let z : ◌≡◌ {A = ℕ} 1 0 = cc in suc-ne-zero 0 z);
     }

@@ -6,8 +6,8 @@ use Rattle.rules.proofs.trees.MeasureLaws.{expected_lawful}
 use Rattle.fitting.proofs.Prices.{price_small}
 use Rattle.fitting.proofs.measure.ForkNumbers.on_share.Goals as goal
 
-pub overflow-mul-result : goal.overflow-mul-result
-overflow-mul-result c = let w = price_small expected expected_lawful c.args.self.now in Fits-below {n = 6000000000000000} tt (omega arith)
+pub overflow_mul-result : goal.overflow_mul-result
+overflow_mul-result c = let w = price_small expected expected_lawful c.args.self.now in Fits-below {n = 6000000000000000} tt (omega arith)
 
 pub returns : goal.returns
 returns c = let w = price_small expected expected_lawful c.args.self.now in record { is = refl; small = omega arith }

@@ -11,10 +11,10 @@ pub returns : goal.returns
 returns c =
     let p = c.args.self.now in
     record {
-      is = c.top-in.ensures.is;
-      past = c.top-in.ensures.past;
+      is = c.top_in.ensures.is;
+      past = c.top_in.ensures.past;
       stands = λ h.
           let low : c.args.state < 32 = omega (arith, h, (draft_well p.draft).few-states) in
-          subst (λ (at : ℕ). Stands p.nodes.now at (tree_of (plan_trees p) c.args.state)) (sym (c.top-in.ensures.is low)) (plan_stands p c.args.state h);
+          subst (λ (at : ℕ). Stands p.nodes.now at (tree_of (plan_trees p) c.args.state)) (sym (c.top_in.ensures.is low)) (plan_stands p c.args.state h);
       sound = plan_sound p;
     }

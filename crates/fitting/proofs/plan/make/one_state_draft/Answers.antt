@@ -4,5 +4,5 @@ use Rattle.fitting.proofs.plan.make.one_state_draft.Goals as goal
 
 pub returns : goal.returns
 returns c =
-    let is = c.make-draft.ensures.refused none_agrees in
-    record { contents = is; rule = contents_rule c.make-draft.result is }
+    let is = c.make_draft.ensures.refused none_agrees in
+    record { contents = is; rule = contents_rule c.make_draft.result is }

@@ -6,9 +6,9 @@ use Rattle.fitting.specs.Plans.{one_leaf}
 use Rattle.fitting.proofs.OneState.{one_walkable, one_gives}
 use Rattle.fitting.proofs.plan.make.one_state_plan.Goals as goal
 
-pub plan-of-requires : goal.plan-of-requires
-plan-of-requires c =
-    let is = c.one-state-draft.ensures.rule in
+pub plan_of-requires : goal.plan_of-requires
+plan_of-requires c =
+    let is = c.one_state_draft.ensures.rule in
     record {
       walkable = subst (λ (r : Rule). Walkable r one_leaf (replicate 32 0)) (sym is) one_walkable;
       pruned = subst (λ (r : Rule). GivesPruned r one_leaf (replicate 32 0)) (sym is) one_gives;

@@ -8,8 +8,8 @@ use Rattle.fitting.specs.Reading.{release_set}
 use Rattle.fitting.proofs.PlanLaws.{live_same, safe_same, release_below, release_same}
 use Rattle.fitting.proofs.plan.make.plan_of.Goals as goal
 
-pub as-set-release-requires : goal.as-set-release-requires
-as-set-release-requires c =
+pub as_set-release-requires : goal.as_set-release-requires
+as_set-release-requires c =
     let d = c.of-pruning.result.draft.now in
     release_below (rule_of d) (draft_well d) c.release.result c.release.ensures
 
@@ -17,15 +17,15 @@ pub invariant_of-result : goal.invariant_of-result
 invariant_of-result c =
     let d = c.of-pruning.result.draft.now in
     let same = c.of-pruning.ensures.same in (
-      c.lines-of-lines.ensures,
+      c.lines_of-lines.ensures,
       (
         live_same (rule_of d) (draft_well d) c.live-live.result c.live-live.type_inv c.live-live.ensures ∙ ap (λ (x : Draft). live_states (rule_of x)) same,
         (
           safe_same (rule_of d) (draft_well d) c.safe-safe.result c.safe-safe.type_inv c.safe-safe.ensures ∙ ap (λ (x : Draft). safe_states (rule_of x)) same,
           (
-            c.starts-of-starts.ensures,
+            c.starts_of-starts.ensures,
             (
-              c.as-set-release.ensures ∙ release_same (rule_of d) (draft_well d) c.release.result c.release.ensures ∙ ap (λ (x : Draft). release_set (rule_of x)) same,
+              c.as_set-release.ensures ∙ release_same (rule_of d) (draft_well d) c.release.result c.release.ensures ∙ ap (λ (x : Draft). release_set (rule_of x)) same,
               (c.requires.walkable, (c.requires.pruned, tt)),
             ),
           ),

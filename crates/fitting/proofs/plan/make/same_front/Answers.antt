@@ -4,12 +4,12 @@ use Rattle.std.proofs.lemmas.List.{take_more_same}
 use Rattle.fitting.proofs.Fronts.{front_same}
 use Rattle.fitting.proofs.plan.make.same_front.Goals as goal
 
-pub returns-then-not-equal-nodes : goal.returns-then-not-equal-nodes
-returns-then-not-equal-nodes c = record {
+pub returns-then-not-equal_nodes : goal.returns-then-not-equal_nodes
+returns-then-not-equal_nodes c = record {
   yes = λ e. let z : ◌≡◌ {A = ℕ} 0 1 = cc in absurd (omega arith);
   not = λ _ same.
-      let t = c.equal-nodes.ensures.1 (front_same c.args.a.now c.args.b.now c.loop-i.i c.args.count _ c.loop-i-test.true same) in
-      let f = c.if-not-equal-nodes.true in
+      let t = c.equal_nodes.ensures.1 (front_same c.args.a.now c.args.b.now c.loop-i.i c.args.count _ c.loop-i-test.true same) in
+      let f = c.if-not-equal_nodes.true in
       let z : ◌≡◌ {A = ℕ} 0 1 = cc in omega arith;
 }
 
@@ -17,7 +17,7 @@ pub loop-i-preserved : goal.loop-i-preserved
 loop-i-preserved c =
     let low_a : c.loop-i.i < length c.args.a.now = omega (arith, c.requires.a, c.loop-i-test.true) in
     let low_b : c.loop-i.i < length c.args.b.now = omega (arith, c.requires.b, c.loop-i-test.true) in
-    take_more_same c.args.a.now c.args.b.now c.loop-i.i _ low_a low_b c.loop-i.invariant (c.equal-nodes.ensures.0 c.if-not-equal-nodes.false)
+    take_more_same c.args.a.now c.args.b.now c.loop-i.i _ low_a low_b c.loop-i.invariant (c.equal_nodes.ensures.0 c.if-not-equal_nodes.false)
 
 pub returns : goal.returns
 returns c =

@@ -5,10 +5,10 @@ use Rattle.pruning.proofs.DraftLaws.{draft_few, draft_states}
 use Rattle.fitting.specs.Reading.{start_states}
 use Rattle.fitting.proofs.plan.make.starts_of.Goals as goal
 
-pub start-states-requires : goal.start-states-requires
-start-states-requires c = subst (λ (ss : List StateRecord). length ss ≤ 32) (sym c.states.ensures) (draft_few c.args.draft.now)
+pub start_states-requires : goal.start_states-requires
+start_states-requires c = subst (λ (ss : List StateRecord). length ss ≤ 32) (sym c.states.ensures) (draft_few c.args.draft.now)
 
 pub returns : goal.returns
 returns c =
-    c.start-states.ensures
+    c.start_states.ensures
     ∙ ap start_states (ap (λ (ss : List StateRecord). map (λ s. s.state) ss) c.states.ensures ∙ sym (draft_states c.args.draft.now))

@@ -6,13 +6,13 @@ use Rattle.watch.proofs.armed.Watch.make.Goals as goal
 
 pub returns-in-Take : goal.returns-in-Take
 returns-in-Take g c = record {
-  made = as_call c.args.self.now.plan.now c.args.call call.Take c.args.self.now.state c.take.new.self.state _ _ _ _ c.in-Take.is c.take-answer.ensures c.take.ensures.taken;
+  made = as_call c.args.self.now.plan.now c.args.call call.Take c.args.self.now.state c.take.new.self.state _ _ _ _ c.in-Take.is c.take_answer.ensures c.take.ensures.taken;
   plan = c.take.ensures.plan;
 }
 
 pub returns-in-Look : goal.returns-in-Look
 returns-in-Look g c = record {
-  made = as_call c.args.self.now.plan.now c.args.call call.Look c.args.self.now.state c.args.self.now.state _ _ _ _ c.in-Look.is c.look-answer.ensures
+  made = as_call c.args.self.now.plan.now c.args.call call.Look c.args.self.now.state c.args.self.now.state _ _ _ _ c.in-Look.is c.look_answer.ensures
       (c.look.ensures.shown (g.S.LineSource.events c.args.source.now));
   plan = refl;
 }
@@ -20,7 +20,7 @@ returns-in-Look g c = record {
 pub returns-in-Rehearse : goal.returns-in-Rehearse
 returns-in-Rehearse g c = record {
   made = as_call c.args.self.now.plan.now c.args.call (call.Rehearse c.in-Rehearse.events) c.args.self.now.state c.rehearse.new.self.state _ _ _ _ c.in-Rehearse.is
-      c.rehearse-answer.ensures (c.rehearse.ensures.rehearsed (g.S.LineSource.events c.args.source.now));
+      c.rehearse_answer.ensures (c.rehearse.ensures.rehearsed (g.S.LineSource.events c.args.source.now));
   plan = c.rehearse.ensures.plan;
 }
 

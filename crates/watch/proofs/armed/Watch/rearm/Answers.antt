@@ -4,10 +4,10 @@ use Rattle.rules.specs.watch.Calls as calls
 use Rattle.watch.proofs.armed.Watch.rearm.Goals as goal
 
 pub invariant_of-self : goal.invariant_of-self
-invariant_of-self c = (omega (arith, c.armed-state-self.ensures.none), (c.armed-state-self.ensures.states, tt))
+invariant_of-self c = (omega (arith, c.armed_state-self.ensures.none), (c.armed_state-self.ensures.states, tt))
 
 pub returns : goal.returns
 returns c = record {
-  rearmed = λ coming es h. ([], calls.Rearming.armed, c.armed-state-self.ensures.armed);
+  rearmed = λ coming es h. ([], calls.Rearming.armed, c.armed_state-self.ensures.armed);
   plan = refl;
 }

@@ -20,11 +20,11 @@ loop-i-init c =
     let nb = lasts c.args.self.now.state.verdict c.in-Open.is in
     (refl, trial_none c.args.self.now.plan.now c.args.self.now.state c.args.events.now nb c.args.self.now.states, nb)
 
-pub returns-then-not-is-event : goal.returns-then-not-is-event
-returns-then-not-is-event c =
+pub returns-then-not-is_event : goal.returns-then-not-is_event
+returns-then-not-is_event c =
     let p = c.args.self.now.plan.now in
     let s = c.args.self.now.state in
-    let above : 63 < get_or c.args.events.now c.loop-i.i 0 = omega (arith, ltb-false _ _ (sym c.if-not-is-event.ensures)) in
+    let above : 63 < get_or c.args.events.now c.loop-i.i 0 = omega (arith, ltb-false _ _ (sym c.if-not-is_event.ensures)) in
     record {
       rehearsed = put_back p c.args.events s c.drop-trial.new.self.0 (answer.Refused (refusal.NoEvent c.loop-i.i)) c.drop-trial.ensures
           (λ coming. trial_no_event p s c.args.events coming c.loop-i.i c.loop-i.trial.state.now c.loop-i.invariant.1 c.loop-i.invariant.2 c.loop-i-test.true above);
@@ -36,14 +36,14 @@ returns-then-not-is-event c =
 trial-next : (c : goal.In-default-verdict) → Trial c.args.self.now.plan.now c.args.self.now.state c.args.events.now (c.loop-i.i + 1) c.tried-trial.result
 trial-next c =
     trial_more c.args.self.now.plan.now c.args.self.now.state c.args.events.now c.loop-i.i c.loop-i.trial.state.now c.loop-i.invariant.1 c.tried-trial.result
-    c.loop-i.invariant.2 c.loop-i-test.true (ltb-true _ _ (sym c.if-not-is-event.ensures)) c.tried-trial.ensures
+    c.loop-i.invariant.2 c.loop-i-test.true (ltb-true _ _ (sym c.if-not-is_event.ensures)) c.tried-trial.ensures
 
 pub returns-in-BreachAt : goal.returns-in-BreachAt
 returns-in-BreachAt c =
     let p = c.args.self.now.plan.now in
     let s = c.args.self.now.state in
     let next = trial_more p s c.args.events.now c.loop-i.i c.loop-i.trial.state.now c.loop-i.invariant.1 c.tried-trial.result
-    c.loop-i.invariant.2 c.loop-i-test.true (ltb-true _ _ (sym c.if-not-is-event.ensures)) c.tried-trial.ensures in
+    c.loop-i.invariant.2 c.loop-i-test.true (ltb-true _ _ (sym c.if-not-is_event.ensures)) c.tried-trial.ensures in
     record {
       rehearsed = put_back p c.args.events s c.drop-trial-in-BreachAt.new.self.0 (answer.Tried word.Breach (c.loop-i.i + 1)) c.drop-trial-in-BreachAt.ensures
           (λ coming. trial_breach p s c.args.events coming (c.loop-i.i + 1) c.tried-trial.result next (c.in-BreachAt.field-0, c.in-BreachAt.is));

@@ -45,11 +45,11 @@ pub invariant_of-self : goal.invariant_of-self
 invariant_of-self g c =
     let p = c.args.self.now.plan.now in
     let coming = g.S.LineSource.events c.args.source.now in
-    let counted = ap (λ s. s.count) c.after-event-after.ensures in (
+    let counted = ap (λ s. s.count) c.after_event-after.ensures in (
       omega (arith, counted),
       (
-        taken-within p c.args.self.now.state.held _ c.gather-set.result.set c.sets.result.release c.after-event-after.result.held
-            (head_low coming (g.S.LineSource.small c.args.source.now)) c.sets.ensures.release c.gather-set.ensures.set (ap (λ s. s.held) c.after-event-after.ensures),
+        taken-within p c.args.self.now.state.held _ c.gather-set.result.set c.sets.result.release c.after_event-after.result.held
+            (head_low coming (g.S.LineSource.small c.args.source.now)) c.sets.ensures.release c.gather-set.ensures.set (ap (λ s. s.held) c.after_event-after.ensures),
         tt,
       ),
     )
@@ -59,9 +59,9 @@ returns g c =
     let p = c.args.self.now.plan.now in
     let s = c.args.self.now.state in
     record {
-      taken = subst (λ (a : Answer). CalledOn p call.Take s (g.S.LineSource.events c.args.source.now) a c.after-event-after.result (g.S.LineSource.events c.drop-first.new.self)) (sym c.taken.ensures)
-          (take_done p s (g.S.LineSource.events c.args.source.now) (g.S.LineSource.events c.drop-first.new.self) c.gather-set.result.set c.gather-set.result.polled c.after-event-after.result
+      taken = subst (λ (a : Answer). CalledOn p call.Take s (g.S.LineSource.events c.args.source.now) a c.after_event-after.result (g.S.LineSource.events c.drop_first.new.self)) (sym c.taken.ensures)
+          (take_done p s (g.S.LineSource.events c.args.source.now) (g.S.LineSource.events c.drop_first.new.self) c.gather-set.result.set c.gather-set.result.polled c.after_event-after.result
           (lasts s.verdict c.in-Open.is) (omega arith) (sym c.in-true.ensures) c.gather-set.ensures.set c.gather-set.ensures.polled
-          (c.after-event-after.ensures ∙ ap (λ (r : ℕ). after_event r c.gather-set.result.set s) c.sets.ensures.release) c.drop-first.ensures.after);
+          (c.after_event-after.ensures ∙ ap (λ (r : ℕ). after_event r c.gather-set.result.set s) c.sets.ensures.release) c.drop_first.ensures.after);
       plan = refl;
     }

@@ -8,7 +8,7 @@ pub returns : goal.returns
 returns c =
     let s = c.sets-sets.ensures in
     record {
-      armed = armed-there c.args.plan.now c.sets-sets.result s.live s.safe s.starts s.release c.start-set.result c.start-set.ensures c.begin.result c.begin.ensures;
+      armed = armed-there c.args.plan.now c.sets-sets.result s.live s.safe s.starts s.release c.start_set.result c.start_set.ensures c.begin.result c.begin.ensures;
       none = ap (λ (t : Snapshot). t.count) c.begin.ensures;
-      states = armed-within c.args.plan.now c.sets-sets.result s.live s.safe s.starts s.release c.start-set.result c.start-set.ensures c.begin.result c.begin.ensures;
+      states = armed-within c.args.plan.now c.sets-sets.result s.live s.safe s.starts s.release c.start_set.result c.start_set.ensures c.begin.result c.begin.ensures;
     }

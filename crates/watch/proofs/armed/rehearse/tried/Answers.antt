@@ -11,6 +11,6 @@ gather-reached-requires c = record { waiting = one_waits c.args.event _ c.requir
 pub returns : goal.returns
 returns c =
     let p = c.args.plan.now in
-    tried_is p c.args.before c.after-trial.result c.args.event c.sets.result.release c.gather-reached.result.set c.sets.ensures.release
+    tried_is p c.args.before c.after_trial.result c.args.event c.sets.result.release c.gather-reached.result.set c.sets.ensures.release
     (c.gather-reached.ensures.set ∙ ap (leads_to (plan_trees p) c.args.before.held) (one_head c.args.event _ c.requires.event c.over-log.ensures))
-    c.after-trial.ensures
+    c.after_trial.ensures
