@@ -77,7 +77,7 @@ fn fork_on<M: Measure>(
     requires count { unpolled ≡ free_in cell }
     requires free { Free cell line }
     ensures line { result.line ≡ line }
-    ensures cost { result.cost ≡ fork_price (price measure.now) lines.now (value_at costs.now) cell line }
+    ensures cost { result.cost ≡ fork_price (M.price measure.now) lines.now (value_at costs.now) cell line }
 {
     let card = lines[line as usize];
     let cost = measure.price(ForkNumbers {
@@ -96,8 +96,8 @@ fn best_fork<M: Measure>(measure: &M, lines: &[Line; 6], costs: &[u64; 729], cel
     requires cell { cell < 729 }
     requires small { SmallAfter (value_at costs.now) cell }
     requires some { 0 < free_in cell }
-    ensures line { LowestBest (price measure.now) lines.now (value_at costs.now) cell result.line }
-    ensures cost { result.cost ≡ fork_price (price measure.now) lines.now (value_at costs.now) cell result.line }
+    ensures line { LowestBest (M.price measure.now) lines.now (value_at costs.now) cell result.line }
+    ensures cost { result.cost ≡ fork_price (M.price measure.now) lines.now (value_at costs.now) cell result.line }
 {
     let unpolled = free_lines(cell);
     let mut best = no_fork();
@@ -120,7 +120,7 @@ fn pick_in<M: Measure>(
     requires lines { All LineInRange lines.now }
     requires cell { cell < 729 }
     requires small { SmallAfter (value_at costs.now) cell }
-    ensures { Picked (price measure.now) lines.now (value_at sets.now) (value_at costs.now) cell result.line result.cost }
+    ensures { Picked (M.price measure.now) lines.now (value_at sets.now) (value_at costs.now) cell result.line result.cost }
 {
     if is_constant(sets, cell) {
         no_fork()
@@ -138,7 +138,7 @@ pub(crate) fn fill_tables<M: Measure>(
     chosen: &mut [u8; 729],
 )
     requires { All LineInRange lines.now }
-    ensures bests { Bests (price measure.now) lines.now (value_at sets.now) (value_at costs.new) (value_at chosen.new) }
+    ensures bests { Bests (M.price measure.now) lines.now (value_at sets.now) (value_at costs.new) (value_at chosen.new) }
     ensures chosen { Chosen (value_at sets.now) (value_at chosen.new) }
 {
     for cell in (0..729).rev() {

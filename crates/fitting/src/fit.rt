@@ -91,7 +91,7 @@ fn fit_next<M: Measure>(
     requires lines { lines.now ≡ (rule_of pruning.now.draft.now).lines }
     requires room { place + 127 ≤ length nodes.old }
     requires low { place + 127 < 2 ^ 16 }
-    ensures { NextFitted (price measure.now) (rule_of pruning.now.draft.now) state place nodes.old nodes.new result.behind result.cost }
+    ensures { NextFitted (M.price measure.now) (rule_of pruning.now.draft.now) state place nodes.old nodes.new result.behind result.cost }
 {
     let sets = pruning.sets(state);
     fit_state(measure, lines, &sets, nodes, place)
@@ -100,7 +100,7 @@ fn fit_next<M: Measure>(
 // Fits the states of a draft, in their order, from place 0 on.
 pub(crate) fn fit_states<M: Measure>(measure: &M, draft: &Draft, nodes: &mut [Node]) -> Fitting
     requires { 4064 ≤ length nodes.old }
-    ensures { DraftFitted (price measure.now) (rule_of draft.now) nodes.old nodes.new result }
+    ensures { DraftFitted (M.price measure.now) (rule_of draft.now) nodes.old nodes.new result }
 {
     let pruning = Pruning::of(draft);
     let lines = lines_of(draft);
@@ -128,7 +128,7 @@ pub fn fit<M: Measure>(
     draft: &Draft,
     nodes: &mut [Node],
 ) -> Result<Fitting, FitRefusal>
-    ensures { Answered (price measure.now) (rule_of draft.now) nodes.old nodes.new result }
+    ensures { Answered (M.price measure.now) (rule_of draft.now) nodes.old nodes.new result }
 {
     if !has_room(nodes.len()) {
         return Err(FitRefusal::FewNodes);

@@ -39,7 +39,7 @@ pub(crate) fn fit_state<M: Measure>(
     requires lines { All LineInRange lines.now }
     requires room { place + 127 ≤ length nodes.old }
     requires low { place + 127 < 2 ^ 16 }
-    ensures { StateFitted (price measure.now) lines.now (value_at sets.now) place nodes.old nodes.new result.behind result.cost }
+    ensures { StateFitted (M.price measure.now) lines.now (value_at sets.now) place nodes.old nodes.new result.behind result.cost }
 {
     let mut costs = [0u64; 729];
     let mut chosen = [0u8; 729];

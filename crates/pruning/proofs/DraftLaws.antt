@@ -48,7 +48,7 @@ line-within f p n h =
 -- between states below k, on a cell
 record Within (k : ℕ) (m : Move) : Type 0 where
   pub leaves : m.from < k
-  pub on_cell_lem : m.cell < 729
+  pub on_cell : m.cell < 729
   pub enters : m.to < k
 
 move-within : (f : List ℕ) (k p : ℕ) (n : Read Move) → 0 < k → move_at f p k ≡ Ok n → Within k n.value
@@ -60,7 +60,7 @@ move-within f k p n some h =
     let a = field_within f p 0 (k - 1) from.0 from.1 in
     let b = field_within f from.0.next 0 728 cell.0 cell.1 in
     let c = field_within f cell.0.next 0 (k - 1) to.0 to.1 in
-    rw is (record { leaves = omega arith; on_cell_lem = omega arith; enters = omega arith })
+    rw is (record { leaves = omega arith; on_cell = omega arith; enters = omega arith })
 
 -- a move that comes after the last one
 Next : ℕ → Option Move → Move → Type 0
@@ -188,7 +188,7 @@ contents_well f c h =
       some-start = rw (states_same f c.states) (start_is c.states (rows_within f c h).1);
       few-moves = p.few_moves;
       moves-fit = All-weaker (Within (length c.states)) (MoveInRange (rule_from f c.lines c.states c.moves))
-          (λ m w. record { from_low = rw count w.leaves; cell_low = w.on_cell_lem; to_low = rw count w.enters }) c.moves (moves-within f c h);
+          (λ m w. record { from_low = rw count w.leaves; cell_low = w.on_cell; to_low = rw count w.enters }) c.moves (moves-within f c h);
       ascending = ascends (length c.states) c.moves (moves_row f c h);
     }
 
@@ -217,5 +217,5 @@ draft_few d = omega (arith, (draft_well d).few-states, ap length (draft_states d
 
 pub draft_ranged : (d : Draft) → Ranged (rule_of d).moves
 draft_ranged d = All-weaker (MoveInRange (rule_of d)) InRange
-    (λ m r. record { leaves = omega (arith, r.from_low, (draft_well d).few-states); on_cell_lem = r.cell_low; enters = omega (arith, r.to_low, (draft_well d).few-states) })
+    (λ m r. record { leaves = omega (arith, r.from_low, (draft_well d).few-states); on_cell = r.cell_low; enters = omega (arith, r.to_low, (draft_well d).few-states) })
     (rule_of d).moves (draft_well d).moves-fit

@@ -13,7 +13,7 @@ use Rattle.rules.specs.automata.Pruning.{selected, kept_moves, pruned_moves}
 -- a move between states below 32, on a cell
 pub record InRange (m : Move) : Type 0 where
   pub leaves : m.from < 32
-  pub on_cell_lem : m.cell < 729
+  pub on_cell : m.cell < 729
   pub enters : m.to < 32
 
 -- each move is in range

@@ -167,7 +167,7 @@ pub record WorkedCases : Type 0 where
   -- the 53 bytes are a good file of the worked rule
   pub rule-read : ReadAs worked_bytes worked
   -- its trees and costs by expected cost
-  pub by_expected_lem : FittedAll expected worked worked_trees worked_costs
+  pub by_expected : FittedAll expected worked worked_trees worked_costs
   -- the trees take 20 nodes
   pub twenty_nodes : length (layout worked_trees) ≡ 20
   -- state 0's tree is the first 11 of them: forks on line 1 at 0, on line 0 at 1, on line 2 at 2, 5 and 8; leaves 10, 2, 12, 4, 10 and 2 at 3, 4, 6, 7, 9 and 10
@@ -187,7 +187,7 @@ pub record WorkedCases : Type 0 where
   -- it costs 30 milliseconds, times 10 ^ 12
   pub first_cost : slice_index_or worked_costs 0 0 ≡ 30000000000000
   -- by worst cost state 0's tree forks on line 0 first, and costs 35
-  pub by_worst_lem : Fitted worst worked 0 by_worst 35
+  pub by_worst : Fitted worst worked 0 by_worst 35
   -- of the worked rule's file and the log 05 08 00 01 the four lines are printed
   pub printed : Prints (Some worked_bytes) (Some worked_log) worked_text
   -- and no other text is
@@ -197,7 +197,7 @@ pub record WorkedCases : Type 0 where
   -- and rehearsing 8 and 64 is refused at index 1
   pub rehearsal_refused : (coming : List ℕ) → Rehearsing worked worked_trees (5 ∷ []) coming (8 ∷ 64 ∷ []) (answer.Refused (refusal.NoEvent 1)) (5 ∷ []) coming
   -- that refusal is told by 44
-  pub refusal_number_lem : number_of (refusal.NoEvent 1) ≡ 44
+  pub refusal_number : number_of (refusal.NoEvent 1) ≡ 44
   -- and with the index 1
   pub refusal_index : index_of (refusal.NoEvent 1) ≡ Some 1
   -- the take and both rehearsals, as calls of one watch newly armed

@@ -146,8 +146,8 @@ fn same_front(a: &[Node], b: &[Node], count: usize) -> bool
 
 // The plan of a draft over nodes that are as fitting leaves them; else the plan of the one-state draft.
 pub fn make_plan<'a, M: Measure>(measure: &M, draft: Draft<'a>, nodes: &'a [Node]) -> Plan<'a>
-    ensures taken { (told : Fitting) → AsFitted (price measure.now) (rule_of draft.entry) nodes.now told → (contents_of result.draft ≡ contents_of draft.entry) × PlanOf (price measure.now) (rule_of draft.entry) nodes.now result }
-    ensures refused { ((told : Fitting) → AsFitted (price measure.now) (rule_of draft.entry) nodes.now told → ⊥) → (contents_of result.draft ≡ empty_contents) × PlanOf (price measure.now) one_state one_leaf result }
+    ensures taken { (told : Fitting) → AsFitted (M.price measure.now) (rule_of draft.entry) nodes.now told → (contents_of result.draft ≡ contents_of draft.entry) × PlanOf (M.price measure.now) (rule_of draft.entry) nodes.now result }
+    ensures refused { ((told : Fitting) → AsFitted (M.price measure.now) (rule_of draft.entry) nodes.now told → ⊥) → (contents_of result.draft ≡ empty_contents) × PlanOf (M.price measure.now) one_state one_leaf result }
 {
     if !has_room(nodes.len()) {
         return one_state_plan();

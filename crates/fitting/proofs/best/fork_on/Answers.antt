@@ -12,22 +12,12 @@ invariant_of-price g c =
     let cell = c.args.cell in
     let line = c.args.line in
     let u = c.args.unpolled in
-    let range = All-get_or LineInRange c.args.lines.now line (record { cost = 0; chance = 0 }) (omega (arith, c.requires.free.0)) c.requires.lines in (
-      range.cost_low,
-      (
-        range.cost_high,
-        (
-          range.chance_high,
-          (
-            some_left best cell line u c.requires.small c.requires.cell c.requires.free c.requires.count,
-            (
-              few-left best cell line u c.requires.small c.requires.cell c.requires.free c.requires.count,
-              (
-                on_small best cell line u c.requires.small c.requires.cell c.requires.free c.requires.count c.on_cell_lem.result c.on_cell_lem.ensures.is,
-                (off_small best cell line u c.requires.small c.requires.cell c.requires.free c.requires.count c.off_cell.result c.off_cell.ensures.is, tt),
-              ),
-            ),
-          ),
-        ),
-      ),
-    )
+    let range = All-get_or LineInRange c.args.lines.now line (record { cost = 0; chance = 0 }) (omega (arith, c.requires.free.0)) c.requires.lines in record {
+      cost_low = range.cost_low;
+      cost_high = range.cost_high;
+      chance_high = range.chance_high;
+      some = some_left best cell line u c.requires.small c.requires.cell c.requires.free c.requires.count;
+      few = few-left best cell line u c.requires.small c.requires.cell c.requires.free c.requires.count;
+      on_high = on_small best cell line u c.requires.small c.requires.cell c.requires.free c.requires.count c.on_cell.result c.on_cell.ensures.is;
+      off_high = off_small best cell line u c.requires.small c.requires.cell c.requires.free c.requires.count c.off_cell.result c.off_cell.ensures.is;
+    }

@@ -19,20 +19,20 @@ pub write_tree-off-requires : goal.write_tree-off-requires
 write_tree-off-requires t c =
     let wants = value_at c.args.sets.now in
     let line = value_at c.args.chosen.now in
-    let fewer = on_fewer wants line c.requires.chosen c.args.cell c.requires.cell c.if-line-ge-LINES.false c.on_cell_lem.result c.on_cell_lem.ensures.is in
-    let half = half_room wants line c.requires.chosen c.args.cell c.requires.cell c.on_cell_lem.result fewer in
-    let some = pow_pos (suc (free_in c.on_cell_lem.result)) in (
+    let fewer = on_fewer wants line c.requires.chosen c.args.cell c.requires.cell c.if-line-ge-LINES.false c.on_cell.result c.on_cell.ensures.is in
+    let half = half_room wants line c.requires.chosen c.args.cell c.requires.cell c.on_cell.result fewer in
+    let some = pow_pos (suc (free_in c.on_cell.result)) in (
       omega (arith, fewer, c.decreases),
-      (c.on_cell_lem.ensures.low, (c.requires.chosen, (omega (arith, c.requires.room, half, some), omega (arith, c.requires.low, half, some)))),
+      (c.on_cell.ensures.low, (c.requires.chosen, (omega (arith, c.requires.room, half, some), omega (arith, c.requires.low, half, some)))),
     )
 
 pub write_tree-end-requires : goal.write_tree-end-requires
 write_tree-end-requires t c =
     let wants = value_at c.args.sets.now in
     let line = value_at c.args.chosen.now in
-    let on = on_fewer wants line c.requires.chosen c.args.cell c.requires.cell c.if-line-ge-LINES.false c.on_cell_lem.result c.on_cell_lem.ensures.is in
+    let on = on_fewer wants line c.requires.chosen c.args.cell c.requires.cell c.if-line-ge-LINES.false c.on_cell.result c.on_cell.ensures.is in
     let off = off_fewer wants line c.requires.chosen c.args.cell c.requires.cell c.if-line-ge-LINES.false c.off_cell.result c.off_cell.ensures.is in
-    let on-half = half_room wants line c.requires.chosen c.args.cell c.requires.cell c.on_cell_lem.result on in
+    let on-half = half_room wants line c.requires.chosen c.args.cell c.requires.cell c.on_cell.result on in
     let off-half = half_room wants line c.requires.chosen c.args.cell c.requires.cell c.off_cell.result off in
     let written = c.write_tree-off.ensures in (
       omega (arith, off, c.decreases),
@@ -49,9 +49,9 @@ pub fork-requires : goal.fork-requires
 fork-requires t c =
     let wants = value_at c.args.sets.now in
     let line = value_at c.args.chosen.now in
-    let on = on_fewer wants line c.requires.chosen c.args.cell c.requires.cell c.if-line-ge-LINES.false c.on_cell_lem.result c.on_cell_lem.ensures.is in
-    let half = half_room wants line c.requires.chosen c.args.cell c.requires.cell c.on_cell_lem.result on in
-    let some = pow_pos (suc (free_in c.on_cell_lem.result)) in
+    let on = on_fewer wants line c.requires.chosen c.args.cell c.requires.cell c.if-line-ge-LINES.false c.on_cell.result c.on_cell.ensures.is in
+    let half = half_room wants line c.requires.chosen c.args.cell c.requires.cell c.on_cell.result on in
+    let some = pow_pos (suc (free_in c.on_cell.result)) in
     let written = c.write_tree-off.ensures in
     record { place = omega (arith, c.requires.low, half, written.small); off = omega (arith, c.requires.low, half, written.end, written.small) }
 
@@ -61,5 +61,5 @@ returns t c =
     let line = value_at c.args.chosen.now in
     subst (λ (n : Node). Written wants line c.args.cell c.args.place c.args.nodes.now (set c.write_tree-end.new.nodes c.args.place n) c.write_tree-end.result) (sym c.fork.ensures)
     (fork_written wants line c.requires.chosen c.args.cell c.requires.cell c.if-line-ge-LINES.false c.args.place c.write_tree-off.result c.write_tree-end.result
-    c.on_cell_lem.result c.off_cell.result c.args.nodes.now c.write_tree-off.new.nodes c.write_tree-end.new.nodes
-    c.on_cell_lem.ensures.is c.off_cell.ensures.is c.write_tree-off.ensures c.write_tree-end.ensures)
+    c.on_cell.result c.off_cell.result c.args.nodes.now c.write_tree-off.new.nodes c.write_tree-end.new.nodes
+    c.on_cell.ensures.is c.off_cell.ensures.is c.write_tree-off.ensures c.write_tree-end.ensures)

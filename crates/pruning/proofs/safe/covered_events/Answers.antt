@@ -16,7 +16,7 @@ loop-m-preserved c =
       | then-goes_into w ↦
           simp w.events-is
           (covering_add c.args.moves.now c.loop-m.m-index _ (record { from = 0; cell = 0; to = 0 }) c.args.state c.args.set c.loop-m.events c.loop-m-test.true refl c.loop-m.invariant
-          w.events_of-events.result w.events_of-events.type_inv (sym c.goes_into.ensures ∙ w.if-goes_into.true) (in_cell _ _ range.on_cell_lem w.events_of-events.ensures.covered))
+          w.events_of-events.result w.events_of-events.type_inv (sym c.goes_into.ensures ∙ w.if-goes_into.true) (in_cell _ _ range.on_cell w.events_of-events.ensures.covered))
       | else-goes_into w ↦
           simp w.events-is
           (covering_skip c.args.moves.now c.loop-m.m-index _ (record { from = 0; cell = 0; to = 0 }) c.args.state c.args.set c.loop-m.events c.loop-m-test.true refl c.loop-m.invariant

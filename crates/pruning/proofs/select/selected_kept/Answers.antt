@@ -14,7 +14,7 @@ loop-m-init c = selected_none c.args.live c.args.safe (count_trailing_zeros 32 c
 pub selects-requires : goal.selects-requires
 selects-requires c =
     let range = All-get_or InRange c.args.moves.now c.loop-m.m-index (record { from = 0; cell = 0; to = 0 }) c.loop-m-test.true c.requires.ranged in
-    (range.on_cell_lem, c.requires.event)
+    (range.on_cell, c.requires.event)
 
 pub only-set-requires : goal.only-set-requires
 only-set-requires c =

@@ -33,7 +33,7 @@ loop-m-preserved c =
             (sym c.is_kept.ensures ∙ w.if-is_kept.true) w.only-target.result
             (w.only-target.ensures ∙ ap (λ (n : ℕ). 2 ^ n) (stands _ _ _ _ w.stand_in.ensures c.lowest-release.ensures))
             _ (w.add_to_covered.ensures.added e l
-            ∙ ap (λ (b : Bool). cond b (bit_or (get_or c.loop-m.sets e 0) w.only-target.result) (get_or c.loop-m.sets e 0)) (in_cell _ _ range.on_cell_lem w.events_of.ensures.covered e l)),
+            ∙ ap (λ (b : Bool). cond b (bit_or (get_or c.loop-m.sets e 0) w.only-target.result) (get_or c.loop-m.sets e 0)) (in_cell _ _ range.on_cell w.events_of.ensures.covered e l)),
       )
       | else-is_kept w ↦ (
         ap length w.sets-is ∙ c.loop-m.invariant.0,

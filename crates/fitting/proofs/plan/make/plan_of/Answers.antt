@@ -16,19 +16,12 @@ as_set-release-requires c =
 pub invariant_of-result : goal.invariant_of-result
 invariant_of-result c =
     let d = c.of-pruning.result.draft.now in
-    let same = c.of-pruning.ensures.same in (
-      c.lines_of-lines.ensures,
-      (
-        live_same (rule_of d) (draft_well d) c.live-live.result c.live-live.type_inv c.live-live.ensures ∙ ap (λ (x : Draft). live_states (rule_of x)) same,
-        (
-          safe_same (rule_of d) (draft_well d) c.safe-safe.result c.safe-safe.type_inv c.safe-safe.ensures ∙ ap (λ (x : Draft). safe_states (rule_of x)) same,
-          (
-            c.starts_of-starts.ensures,
-            (
-              c.as_set-release.ensures ∙ release_same (rule_of d) (draft_well d) c.release.result c.release.ensures ∙ ap (λ (x : Draft). release_set (rule_of x)) same,
-              (c.requires.walkable, (c.requires.pruned, tt)),
-            ),
-          ),
-        ),
-      ),
-    )
+    let same = c.of-pruning.ensures.same in record {
+      lines_are = c.lines_of-lines.ensures;
+      live_is = live_same (rule_of d) (draft_well d) c.live-live.result c.live-live.type_inv c.live-live.ensures ∙ ap (λ (x : Draft). live_states (rule_of x)) same;
+      safe_is = safe_same (rule_of d) (draft_well d) c.safe-safe.result c.safe-safe.type_inv c.safe-safe.ensures ∙ ap (λ (x : Draft). safe_states (rule_of x)) same;
+      starts_are = c.starts_of-starts.ensures;
+      release_is = c.as_set-release.ensures ∙ release_same (rule_of d) (draft_well d) c.release.result c.release.ensures ∙ ap (λ (x : Draft). release_set (rule_of x)) same;
+      walkable = c.requires.walkable;
+      pruned = c.requires.pruned;
+    }
