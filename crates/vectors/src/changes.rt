@@ -17,7 +17,8 @@ fn push_run(text: &mut String, run: Run) -> Result<(), fmt::Error> {
     if run.times == 0 {
         return Ok(());
     }
-    write!(text, " {}*{}", run.event, run.times)
+    write!(text, " {}*{}", run.event, run.times)?;
+    Ok(())
 }
 
 // Writes the longest runs of equal events of a source, and plays it to its end.

@@ -92,7 +92,7 @@ mod tests {
             return Err(Fail::new("card 1 is a line"));
         };
         assert_eq!(rt; line.line.cost, 5);
-        assert!(rt; line.name == b"b");
+        assert!(rt; line.name == b"b".as_slice());
         let Some(Card::State(state)) = draft.card(6) else {
             return Err(Fail::new("card 6 is a state"));
         };
