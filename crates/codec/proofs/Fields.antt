@@ -1,5 +1,5 @@
 -- A number with a range is taken exactly where the bytes are the encoding of a value in the range.
-use Rattle.std.proofs.Common.{◌≡◌, ℕ, ◌<◌, ◌≤◌, cond, ◌||◌, ltb, leb, List, length, Ok, Err, sym, refl, ap, ◌∙◌, arith}
+use Rattle.std.proofs.Common.{◌≡◌, ℕ, ◌<◌, ◌≤◌, ◌||◌, ltb, leb, List, length, Ok, arith}
 use Rattle.std.proofs.lemmas.Bool.{ltb-false, le-ltb, lt-leb, or_parts, or_from}
 use Rattle.codec.specs.declared.fault.NumberFault.{NumberFault}
 use Rattle.codec.specs.declared.read.Read.{Read}

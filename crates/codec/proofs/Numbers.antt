@@ -1,12 +1,11 @@
 -- Reading a number is exact for its encoding.
-use Rattle.std.proofs.Common.{◌≡◌, ℕ, zero, suc, ◌+◌, ◌-◌, ◌*◌, ◌/◌, ◌%◌, ◌<◌, ◌≤◌, Bool, true, false, cond, ◌||◌, eqb, ltb, leb, ◌⊎◌, List, [], ◌∷◌, ◌++◌, length, get_or, drop, IfOk, Ok, Err, Result, sym, refl, ap, ◌∙◌, subst, inl, inr, ⊎_elim, arith}
-use Rattle.std.proofs.lemmas.Bool.{cond_both, ltb-true, ltb-false, leb-true, leb-false, eqb-true, eqb-false, cond-true, cond-false, lt-ltb, le-ltb, le-leb, lt-leb, or_parts, or_from, ne_eqb, cases_lt}
-use Rattle.std.proofs.lemmas.List.{drop_more, get_or-drop, length-drop, length-append}
+use Rattle.std.proofs.Common.{◌≡◌, ℕ, zero, suc, ◌+◌, ◌-◌, ◌*◌, ◌/◌, ◌%◌, ◌<◌, ◌≤◌, ◌||◌, eqb, ltb, leb, List, [], ◌∷◌, ◌++◌, length, get_or, drop, IfOk, Ok, Result, sym, refl, ap, ◌∙◌, subst, ⊎_elim, arith}
+use Rattle.std.proofs.lemmas.Bool.{cond_both, ltb-true, ltb-false, leb-false, eqb-false, cond-true, cond-false, lt-ltb, le-ltb, lt-leb, or_parts, or_from, ne_eqb, cases_lt}
+use Rattle.std.proofs.lemmas.List.{drop_more, length-drop, length-append}
 use Rattle.std.proofs.lemmas.Nat.{div-mul-add, mod-mul-add, div-add-mod', mod_below}
 use Rattle.std.proofs.lemmas.Result.{MatchResult-at_ok}
 use Rattle.codec.specs.declared.read.Read.{Read}
 use Rattle.codec.specs.declared.fault.NumberFault.{NumberFault}
-use Rattle.codec.specs.declared.fault.NumberFault.TheVariants.{Short, Form}
 use Rattle.codec.specs.Number.{groups, encode, number_at, IsNumber, Octets, NumberExact}
 
 -- the last group

@@ -1,5 +1,5 @@
 -- Counting the free lines of a cell, from line 0 up.
-use Rattle.std.proofs.Common.{◌≡◌, ℕ, suc, ◌+◌, ◌*◌, ◌/◌, ◌%◌, ◌^◌, Bool, true, false, eqb, sym, ap, ◌∙◌, ap₂, add-zero, pow-suc, add-one, eq-eqb, ne_eqb}
+use Rattle.std.proofs.Common.{◌≡◌, ℕ, ◌+◌, ◌/◌, ◌%◌, ◌^◌, Bool, true, false, eqb, sym, ap, ◌∙◌, ap₂, add-zero, pow-suc, add-one, eq-eqb, ne_eqb}
 use native.Mathlib.Nat.{div-div-eq-div-mul}
 use Rattle.events.specs.Cells.{digit, one_if, count_below}
 

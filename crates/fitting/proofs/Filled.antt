@@ -1,5 +1,5 @@
 -- The tables of best costs and chosen lines, filled from a cell on.
-use Rattle.std.proofs.Common.{◌≡◌, ℕ, zero, suc, ◌+◌, ◌-◌, ◌<◌, ◌≤◌, ◌≢◌, ◌⊎◌, List, length, get_or, set, sym, refl, ap, ◌∙◌, subst, inl, inr, le_trans, le_of_eq, arith}
+use Rattle.std.proofs.Common.{◌≡◌, ℕ, zero, suc, ◌+◌, ◌<◌, ◌≤◌, ◌⊎◌, List, length, set, sym, refl, ap, ◌∙◌, subst, inl, inr, le_trans, le_of_eq, arith}
 use native.Mathlib.Nat.{suc_inj}
 use Rattle.std.proofs.lemmas.List.{length-set, get_or-set_same, get_or-set_other}
 use Rattle.std.proofs.lemmas.Bool.{cases_eq}
@@ -10,7 +10,7 @@ use Rattle.rules.specs.automata.Rules.{LineInRange, line_of}
 use Rattle.rules.specs.trees.Costs.{Price, Lawful, bound}
 use Rattle.rules.specs.trees.Bests.{Constant, fork_price, LowestBest, Bests}
 use Rattle.rules.proofs.trees.BestLaws.{on_below, off_below}
-use Rattle.rules.proofs.trees.BestTable.{Least, Entry, From, above_on, above_off, from_all, from_step, entry-constant, array_forked}
+use Rattle.rules.proofs.trees.BestTable.{Least, From, above_on, above_off, from_all, from_step, entry-constant, array_forked}
 use Rattle.rules.proofs.trees.ConstantLaws.{constant-decided}
 use Rattle.fitting.specs.Tables.{value_at, SmallAfter, Picked, Chosen}
 

@@ -1,5 +1,5 @@
 -- The one-state rule: its draft, and its one tree, the leaf of the empty set.
-use Rattle.std.proofs.Common.{◌≡◌, ℕ, zero, suc, ◌<◌, ◌≤◌, [], ◌∷◌, map, get_or, replicate, refl, ap, ◌∙◌, le_of_suc-le-suc, not-suc-le-zero, arith, lit≤}
+use Rattle.std.proofs.Common.{◌≡◌, ℕ, zero, suc, ◌<◌, [], ◌∷◌, map, get_or, replicate, refl, ap, ◌∙◌, le_of_suc-le-suc, not-suc-le-zero, arith, lit≤}
 use Rattle.rules.specs.automata.Rules.{Rule, Accepts, LineInRange, WellFormed}
 use Rattle.rules.specs.automata.Runs.{Live}
 use Rattle.rules.specs.trees.Trees.{leaf}

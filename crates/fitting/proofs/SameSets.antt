@@ -5,7 +5,7 @@ use lib.Count.{count_trailing_zeros}
 use borrow.Author.Numbers.{trailing_lt}
 use Rattle.events.specs.Sets.{has}
 use Rattle.events.specs.Cells.{Covers, covers, lowest}
-use Rattle.events.proofs.SetLaws.{T_true, true_T, false_T, has_none}
+use Rattle.events.proofs.SetLaws.{true_T, false_T, has_none}
 use Rattle.events.proofs.LowestLaws.{low_member, without}
 use Rattle.events.proofs.CellLaws.{covers_is, lowest-small, lowest-covered}
 use Rattle.rules.specs.trees.Bests.{Constant}

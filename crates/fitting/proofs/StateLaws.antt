@@ -1,8 +1,7 @@
 -- What holds of a state's best tree once it is written, and what that is for a state of a rule.
-use Rattle.std.proofs.Common.{◌≡◌, ℕ, suc, ◌+◌, ◌%◌, ◌^◌, ◌<◌, ◌≤◌, List, [], ◌∷◌, ◌++◌, length, take, drop, set, sym, refl, ap, ◌∙◌, subst, append_assoc, le_trans, le_of_eq, add-zero, arith, lit≤}
+use Rattle.std.proofs.Common.{◌≡◌, ℕ, ◌+◌, ◌%◌, ◌^◌, ◌<◌, ◌≤◌, List, [], ◌∷◌, ◌++◌, length, take, drop, set, sym, refl, ap, ◌∙◌, subst, append_assoc, add-zero, arith, lit≤}
 use native.Mathlib.Nat.{zero-div}
 use Rattle.std.proofs.lemmas.List.{length-set, length-take-le, take-append-drop, take_more_set, drop-set-lt}
-use Rattle.events.specs.Cells.{free_in}
 use Rattle.events.proofs.SetLaws.{∈_none}
 use Rattle.events.proofs.CellLaws.{covers_all, free-whole}
 use Rattle.rules.specs.declared.Line.{Line}

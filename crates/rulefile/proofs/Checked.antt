@@ -1,12 +1,11 @@
 -- What the check's answer says of the file and of the lists.
-use Rattle.std.proofs.Common.{◌≡◌, ℕ, ◌<◌, ◌≤◌, true, false, List, ◌++◌, map, length, take, drop, Ok, Err, Result, sym, refl, ap, ◌∙◌, arith}
+use Rattle.std.proofs.Common.{◌≡◌, ℕ, ◌≤◌, true, false, List, map, length, take, drop, Ok, Err, Result, sym, refl, ap, ◌∙◌, arith}
 use Rattle.std.proofs.lemmas.List.{length-map, take_at}
 use Rattle.std.proofs.lemmas.Bool.{le-ltb, ltb-false}
 use Rattle.codec.specs.Number.{Octets}
 use Rattle.codec.proofs.Steps.{else_ok}
 use Rattle.rules.specs.declared.Move.{Move}
 use Rattle.rulefile.specs.declared.fault.FileFault.{FileFault}
-use Rattle.rulefile.specs.declared.fault.Refusal.{Refusal}
 use Rattle.rulefile.specs.declared.outline.Outline.{Outline}
 use Rattle.rulefile.specs.declared.record.StateRecord.{StateRecord}
 use Rattle.rulefile.specs.File.{Contents, file_of, outline_of, outlined, room, overlaid}

@@ -1,8 +1,8 @@
 -- A file is taken exactly when it is the bytes of a good rule.
-use Rattle.std.proofs.Common.{◌≡◌, ℕ, zero, suc, ◌+◌, ◌-◌, ◌%◌, ◌<◌, ◌≤◌, Bool, true, false, cond, ◌&&◌, ◌||◌, eqb, ltb, leb, ◌⊎◌, List, [], ◌∷◌, ◌++◌, map, length, get_or, take, drop, is_ok, Some, None, Ok, Err, Decides, Option, Result, sym, refl, ap, ◌∙◌, subst, inl, inr, ⊎_elim, arith}
+use Rattle.std.proofs.Common.{◌≡◌, ℕ, zero, suc, ◌+◌, ◌-◌, ◌<◌, ◌≤◌, true, false, ◌&&◌, ◌||◌, eqb, ltb, leb, ◌⊎◌, List, [], ◌∷◌, ◌++◌, map, length, take, drop, Some, None, Ok, Option, Result, sym, refl, ap, ◌∙◌, subst, inl, inr, ⊎_elim, arith}
 use Rattle.std.specs.List.{flat_map, AllByRecursion as All}
 use Rattle.std.proofs.lemmas.List.{length-map, append-nil, drop_all, map-id}
-use Rattle.std.proofs.lemmas.Bool.{ltb-true, ltb-false, le-ltb, lt-ltb, lt-leb, leb-false, eqb-true, eq-eqb, or_parts, or_from, or_cases, or_left, or_right, and_parts, and_from}
+use Rattle.std.proofs.lemmas.Bool.{ltb-true, ltb-false, le-ltb, lt-ltb, lt-leb, eqb-true, eq-eqb, or_cases, or_left, or_right, and_parts, and_from}
 use Rattle.rulefile.specs.declared.fault.FileFault.{FileFault}
 use Rattle.rulefile.specs.declared.fault.FileFault.TheVariants as fault
 use Rattle.rules.specs.declared.Move.{Move}
@@ -11,9 +11,8 @@ use Rattle.rulefile.specs.declared.record.StateRecord.{StateRecord}
 use Rattle.codec.specs.declared.read.Read.{Read}
 use Rattle.codec.specs.Number.{encode, Octets}
 use Rattle.rulefile.specs.Card.{LineValue, StateValue, line_at, state_at, move_at}
-use Rattle.rulefile.specs.File.{Contents, count_at, line_record_at, state_record_at, move_record_at, next_move_at, before, follows, row_from, line_cards_at, state_cards_at, move_cards_at, any_start, name_before, file_of, outlined}
-use Rattle.codec.specs.Steps.{and_then}
-use Rattle.rulefile.specs.Rule.{Rule, encode_name, encode_line, flags_of, encode_state, encode_move, encode_rule, GoodName, GoodLine, GoodState, GoodMove, GoodRule, Before, Ascending, HasStart, line_in, state_in, rule_of, FileExact, Readable}
+use Rattle.rulefile.specs.File.{Contents, count_at, line_record_at, state_record_at, move_record_at, next_move_at, before, follows, row_from, line_cards_at, state_cards_at, move_cards_at, any_start, name_before, file_of}
+use Rattle.rulefile.specs.Rule.{Rule, encode_name, encode_line, flags_of, encode_state, encode_move, encode_rule, GoodLine, GoodState, GoodMove, GoodRule, Before, Ascending, HasStart, line_in, state_in, rule_of, FileExact}
 use Rattle.codec.proofs.Steps.{inside_ok, then_ok, else_ok, if_ok}
 use Rattle.codec.proofs.Numbers.{encode-some}
 use Rattle.rulefile.proofs.Cards.{line_sound, line_complete, state_sound, state_complete, move_sound, move_complete}

@@ -1,10 +1,9 @@
 -- What is known of a file that is taken.
-use Rattle.std.proofs.Common.{◌≡◌, ℕ, ◌<◌, ◌≤◌, true, ltb, List, length, Some, None, Ok, Err, Result, sym, subst, arith}
+use Rattle.std.proofs.Common.{◌≡◌, ℕ, ◌<◌, ◌≤◌, ltb, List, length, Some, None, Ok, Result, sym, subst, arith}
 use Rattle.rulefile.specs.declared.fault.FileFault.{FileFault}
 use Rattle.rulefile.specs.declared.fault.FileFault.TheVariants as fault
 use Rattle.codec.specs.declared.read.Read.{Read}
 use Rattle.rulefile.specs.declared.outline.Outline.{Outline}
-use Rattle.rulefile.specs.declared.record.LineRecord.{LineRecord}
 use Rattle.rulefile.specs.File.{Contents, file_of, count_at, line_cards_at, state_cards_at, move_cards_at, any_start, outlined, outline_of, line_record_at, state_record_at, next_move_at}
 use Rattle.codec.proofs.Steps.{inside_ok, then_ok, else_ok, if_ok}
 use Rattle.codec.proofs.Fields.{ranged_within}

@@ -1,7 +1,6 @@
 -- The bytes of a name, one after the other.
-use Rattle.std.proofs.Common.{◌≡◌, ℕ, zero, suc, ◌+◌, ◌-◌, ◌<◌, ◌≤◌, true, false, cond, not, ltb, leb, List, length, get_or, Ok, Err, sym, refl, ap, ◌∙◌, arith}
-use Rattle.std.proofs.lemmas.Bool.{cond-true, cond-false, le-leb, lt-leb, le-ltb}
-use Rattle.codec.specs.declared.fault.CardFault.{CardFault}
+use Rattle.std.proofs.Common.{◌≡◌, ℕ, suc, ◌+◌, ◌-◌, ◌<◌, ◌≤◌, true, false, cond, not, leb, List, length, get_or, Err, ap, ◌∙◌, arith}
+use Rattle.std.proofs.lemmas.Bool.{cond-true, cond-false, le-leb, lt-leb}
 use Rattle.codec.specs.declared.fault.CardFault.TheVariants as fault
 use Rattle.rulefile.specs.Card.{is_name_byte, name_end}
 

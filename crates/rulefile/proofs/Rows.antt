@@ -1,5 +1,5 @@
 -- A row that is read one by one: what is left gives the same.
-use Rattle.std.proofs.Common.{◌≡◌, ℕ, zero, suc, ◌+◌, ◌-◌, ◌<◌, ◌≤◌, true, false, List, [], ◌∷◌, ◌++◌, length, get_or, take, drop, set, is_ok, Ok, Err, Result, sym, refl, ap, ◌∙◌, subst, arith}
+use Rattle.std.proofs.Common.{◌≡◌, ℕ, zero, suc, ◌+◌, ◌-◌, ◌<◌, ◌≤◌, true, List, [], ◌∷◌, ◌++◌, length, get_or, take, drop, set, is_ok, Ok, Err, Result, sym, refl, ap, ◌∙◌, arith}
 use Rattle.rulefile.specs.declared.fault.FileFault.{FileFault}
 use Rattle.codec.specs.declared.read.Read.{Read}
 use Rattle.codec.specs.Steps.{and_then}

@@ -1,7 +1,7 @@
 -- What stands at a place of a list that is mapped or joined, and the part of a list between two places.
 use Rattle.std.proofs.Common.{◌≡◌, ℕ, zero, suc, ◌+◌, ◌-◌, ◌<◌, ◌≤◌, ◌⊎◌, List, [], ◌∷◌, ◌++◌, map, length, get_or, take, drop, Some, None, sym, refl, ap, ◌∙◌, inl, inr, le_of_suc-le-suc, not-suc-le-zero, arith}
 use Rattle.std.specs.List.{slice_get}
-use Rattle.std.proofs.lemmas.List.{length-map, length-append, length-drop, take_all, drop_all}
+use Rattle.std.proofs.lemmas.List.{length-map, length-drop, take_all, drop_all}
 use Rattle.std.proofs.lemmas.Option.{slice_get_past}
 use Rattle.rules.specs.declared.Move.{Move}
 use Rattle.rulefile.specs.declared.record.LineRecord.{LineRecord}

@@ -2,7 +2,6 @@
 use Rattle.std.specs.Prelude.{◌≡◌, ℕ, ◌+◌, ◌<◌, ◌≤◌, true, cond, ◌⊎◌, List, [], ◌∷◌, ◌++◌, map, length, take, drop, Ok}
 use Rattle.std.specs.List.{flat_map, AllByRecursion as All}
 use Rattle.codec.specs.Number.{encode, Octets}
-use Rattle.rules.specs.declared.Line.{Line}
 use Rattle.rules.specs.declared.Move.{Move}
 use Rattle.rules.specs.declared.State.{State}
 use Rattle.rulefile.specs.declared.record.Counts.{Counts}

@@ -1,5 +1,5 @@
 -- Each turn writes the entries of one cell.
-use Rattle.std.proofs.Common.{◌≡◌, ℕ, ◌+◌, ◌-◌, ◌<◌, sym, subst, arith}
+use Rattle.std.proofs.Common.{◌≡◌, ◌+◌, ◌-◌, ◌<◌, subst, arith}
 use Rattle.std.proofs.ByRecursion.{All-get_or}
 use Rattle.rules.specs.automata.Rules.{LineInRange}
 use Rattle.fitting.specs.Tables.{value_at}

@@ -1,7 +1,5 @@
 -- Each turn compares the lowest event that is left.
-use Rattle.std.proofs.Common.{◌≡◌, ℕ, ◌<◌, true, false, T, sym, ap, ◌∙◌, arith}
-use lib.Count.{count_trailing_zeros}
-use Rattle.events.specs.Cells.{lowest}
+use Rattle.std.proofs.Common.{◌<◌, true, false, sym, ap, ◌∙◌, arith}
 use Rattle.events.proofs.CellLaws.{lowest-small}
 use Rattle.events.proofs.SetLaws.{false_T, true_T}
 use Rattle.fitting.specs.Tables.{value_at}

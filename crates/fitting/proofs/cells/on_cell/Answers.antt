@@ -1,5 +1,5 @@
 -- The cell with the line fixed to on is a cell.
-use Rattle.std.proofs.Common.{ℕ, ◌+◌, ◌<◌, sym, ap, subst, arith}
+use Rattle.std.proofs.Common.{ℕ, ◌+◌, ap, arith}
 use Rattle.rules.proofs.trees.BestLaws.{on_below}
 use Rattle.fitting.proofs.cells.on_cell.Goals as goal
 

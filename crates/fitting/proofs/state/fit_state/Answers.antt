@@ -1,5 +1,5 @@
 -- The tables are filled, there is room for 127 nodes, and the tree is written from the tables.
-use Rattle.std.proofs.Common.{◌≡◌, ℕ, suc, ◌+◌, ◌^◌, ◌≤◌, sym, ap, subst₂, arith}
+use Rattle.std.proofs.Common.{◌≡◌, ℕ, suc, ◌^◌, sym, ap, subst₂, arith}
 use Rattle.std.proofs.ByRecursion.{All-get_or}
 use Rattle.events.specs.Cells.{free_in}
 use Rattle.events.proofs.CellLaws.{free-whole}

@@ -1,11 +1,11 @@
 -- A leaf where no line is chosen, and otherwise the two parts, for each of which there is room, and then the fork.
-use Rattle.std.proofs.Common.{◌≡◌, suc, ◌+◌, List, set, sym, subst, arith}
+use Rattle.std.proofs.Common.{suc, ◌+◌, set, sym, subst, arith}
 use Rattle.std.proofs.lemmas.Nat.{pow_pos}
 use Rattle.events.specs.Cells.{free_in}
 use Rattle.rules.specs.declared.Node.{Node}
 use Rattle.fitting.specs.States.{Written}
 use Rattle.fitting.specs.Tables.{value_at}
-use Rattle.fitting.proofs.Writing.{leaf_written, fork-free, on_fewer, off_fewer, half_room, fork_written}
+use Rattle.fitting.proofs.Writing.{leaf_written, on_fewer, off_fewer, half_room, fork_written}
 use Rattle.fitting.proofs.tree.+write_tree.Goals as goal
 
 pub returns-then-line-ge-LINES : goal.returns-then-line-ge-LINES

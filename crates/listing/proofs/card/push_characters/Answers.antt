@@ -1,4 +1,4 @@
-use Rattle.std.proofs.Common.{◌<◌, ◌≤◌, string_bytes, ◌∙◌, arith}
+use Rattle.std.proofs.Common.{string_bytes, ◌∙◌, arith}
 use Rattle.listing.proofs.Names.{character_more, characters_all}
 use Rattle.listing.proofs.card.push_characters.Goals as goal
 

@@ -1,5 +1,5 @@
-use Rattle.std.proofs.Common.{string_bytes, codes, ◌∙◌}
-use Rattle.listing.specs.Text.{name_text, line_text}
+use Rattle.std.proofs.Common.{string_bytes, codes}
+use Rattle.listing.specs.Text.{name_text}
 use Rattle.listing.proofs.Names.{two_parts}
 use Rattle.listing.proofs.card.push_line.Goals as goal
 

@@ -1,4 +1,4 @@
-use Rattle.std.proofs.Common.{◌≡◌, ℕ, Bool, true, false, List, ◌++◌, length, string_bytes, codes, sym, ap, ◌∙◌, arith}
+use Rattle.std.proofs.Common.{ℕ, List, ◌++◌, string_bytes, codes, sym, ap, ◌∙◌}
 use lib.Utf8.{encodes}
 use Rattle.std.proofs.lemmas.Bool.{eqb-false}
 use Rattle.listing.proofs.Names.{two_parts, named}

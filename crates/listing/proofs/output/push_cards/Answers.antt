@@ -1,7 +1,6 @@
-use Rattle.std.proofs.Common.{◌++◌, string_bytes, ◌∙◌, arith}
+use Rattle.std.proofs.Common.{string_bytes, arith}
 use Rattle.rulefile.proofs.Agree.{few_cards}
 use Rattle.rulefile.specs.Draft.{draft_rule, cards_of, card_value}
-use Rattle.listing.specs.Text.{cards_text}
 use Rattle.listing.proofs.Cards.{card_more, cards_end, cards_all}
 use Rattle.listing.proofs.output.push_cards.Goals as goal
 

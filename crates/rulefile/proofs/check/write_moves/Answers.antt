@@ -1,4 +1,4 @@
-use Rattle.std.proofs.Common.{◌≡◌, ℕ, ◌+◌, ◌-◌, ◌<◌, ◌≤◌, List, ◌++◌, length, take, drop, set, Some, sym, refl, ap, ◌∙◌, arith}
+use Rattle.std.proofs.Common.{◌≡◌, ◌+◌, ◌-◌, ◌<◌, ◌≤◌, ◌++◌, length, take, set, Some, sym, ◌∙◌, arith}
 use Rattle.rulefile.specs.File.{next_move_at, move_cards_at}
 use Rattle.rulefile.proofs.Rows.{row_fault, row_more, row_end, wrote_more, wrote_rest, wrote_all, no_fault}
 use Rattle.rulefile.proofs.check.write_moves.Goals as goal

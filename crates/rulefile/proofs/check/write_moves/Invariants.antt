@@ -1,4 +1,4 @@
-use Rattle.std.proofs.Common.{◌≡◌, ◌-◌, ◌++◌, length, take, drop, Some}
+use Rattle.std.proofs.Common.{◌≡◌, ◌-◌, ◌++◌, take, drop, Some}
 use Rattle.rulefile.specs.File.{row_from, next_move_at, move_cards_at, read_by}
 use Rattle.rulefile.proofs.check.write_moves.Given as goal
 

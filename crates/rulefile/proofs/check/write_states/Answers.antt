@@ -1,4 +1,4 @@
-use Rattle.std.proofs.Common.{◌≡◌, ℕ, ◌+◌, ◌-◌, ◌<◌, ◌≤◌, List, ◌++◌, length, take, drop, set, sym, refl, ap, ◌∙◌, arith}
+use Rattle.std.proofs.Common.{◌≡◌, ◌+◌, ◌-◌, ◌<◌, ◌≤◌, ◌++◌, length, take, set, sym, ◌∙◌, arith}
 use Rattle.rulefile.specs.File.{state_record_at, state_cards_at}
 use Rattle.rulefile.proofs.Rows.{row_fault, row_more, row_end, wrote_more, wrote_rest, wrote_all, no_fault}
 use Rattle.rulefile.proofs.check.write_states.Goals as goal

@@ -1,4 +1,4 @@
-use Rattle.std.proofs.Common.{◌≡◌, ◌-◌, ◌++◌, length, take, drop}
+use Rattle.std.proofs.Common.{◌≡◌, ◌-◌, ◌++◌, take, drop}
 use Rattle.rulefile.specs.File.{state_cards_at, read_by}
 use Rattle.rulefile.proofs.check.write_states.Given as goal
 

@@ -1,7 +1,7 @@
-use Rattle.std.proofs.Common.{◌≡◌, true, false, ltb, length, Some, None, Ok, Err, sym, refl, ap, ◌∙◌}
+use Rattle.std.proofs.Common.{Some, sym, ◌∙◌}
 use Rattle.std.proofs.lemmas.Result.{err_from_is_err_and}
 use Rattle.std.proofs.lemmas.Bool.{lt-ltb, le-ltb}
-use Rattle.rulefile.specs.File.{file_of, count_at, line_cards_at, state_cards_at, move_cards_at, any_start, state_record_at, next_move_at}
+use Rattle.rulefile.specs.File.{file_of, state_cards_at, move_cards_at, any_start, state_record_at, next_move_at}
 use Rattle.rulefile.proofs.Rows.{by_err, by_ok, row_length}
 use Rattle.rulefile.proofs.outline.scan.Goals as goal
 

@@ -1,4 +1,4 @@
-use Rattle.std.proofs.Common.{◌≡◌, ℕ, ◌+◌, ◌-◌, ◌<◌, ◌≤◌, List, ◌∷◌, ◌++◌, length, take, sym, refl, ap, ◌∙◌, arith}
+use Rattle.std.proofs.Common.{◌≡◌, ℕ, ◌+◌, ◌-◌, ◌<◌, ◌∷◌, ◌++◌, length, take, sym, refl, ap, ◌∙◌, arith}
 use Rattle.rulefile.specs.File.{state_record_at, state_cards_at}
 use Rattle.rulefile.proofs.Rows.{row_fault, row_more, row_end, no_fault, same_more, same_all, differs}
 use Rattle.rulefile.proofs.draft.make.same_states.Goals as goal
