@@ -1,6 +1,6 @@
 // The best cost in each of the 729 cells and the line to fork on there, filled from the last cell down.
 ghost use Rattle.std.specs.Prelude.{◌≡◌, ℕ, ◌<◌, ◌≤◌, true, false, ◌≢◌};
-ghost use Rattle.std.specs.List.{AllByRecursion as All};
+ghost use Rattle.std.specs.List.{AllByRecursion};
 ghost use Rattle.events.specs.Cells.{Free, free_in};
 ghost use Rattle.rules.specs.automata.Rules.{LineInRange};
 ghost use Rattle.rules.specs.trees.Bests.{Constant, fork_price, LowestBest, Bests};
@@ -71,7 +71,7 @@ fn fork_on<M: Measure>(
     unpolled: u8,
     line: u8,
 ) -> Pick
-    requires lines { All LineInRange lines.now }
+    requires lines { AllByRecursion LineInRange lines.now }
     requires cell { cell < 729 }
     requires small { SmallAfter (value_at costs.now) cell }
     requires count { unpolled ≡ free_in cell }
@@ -92,7 +92,7 @@ fn fork_on<M: Measure>(
 
 // The lowest free line whose fork has the least price, and that price.
 fn best_fork<M: Measure>(measure: &M, lines: &[Line; 6], costs: &[u64; 729], cell: u16) -> Pick
-    requires lines { All LineInRange lines.now }
+    requires lines { AllByRecursion LineInRange lines.now }
     requires cell { cell < 729 }
     requires small { SmallAfter (value_at costs.now) cell }
     requires some { 0 < free_in cell }
@@ -117,7 +117,7 @@ fn pick_in<M: Measure>(
     costs: &[u64; 729],
     cell: u16,
 ) -> Pick
-    requires lines { All LineInRange lines.now }
+    requires lines { AllByRecursion LineInRange lines.now }
     requires cell { cell < 729 }
     requires small { SmallAfter (value_at costs.now) cell }
     ensures { Picked (M.price measure.now) lines.now (value_at sets.now) (value_at costs.now) cell result.line result.cost }
@@ -137,7 +137,7 @@ pub(crate) fn fill_tables<M: Measure>(
     costs: &mut [u64; 729],
     chosen: &mut [u8; 729],
 )
-    requires { All LineInRange lines.now }
+    requires { AllByRecursion LineInRange lines.now }
     ensures bests { Bests (M.price measure.now) lines.now (value_at sets.now) (value_at costs.new) (value_at chosen.new) }
     ensures chosen { Chosen (value_at sets.now) (value_at chosen.new) }
 {

@@ -1,6 +1,6 @@
 // Fitting one state: its tables of best costs and lines, and the best tree, written from a place on.
 ghost use Rattle.std.specs.Prelude.{◌≡◌, ◌+◌, ◌^◌, ◌<◌, ◌≤◌, length};
-ghost use Rattle.std.specs.List.{AllByRecursion as All};
+ghost use Rattle.std.specs.List.{AllByRecursion};
 ghost use Rattle.rules.specs.automata.Rules.{LineInRange};
 ghost use Rattle.fitting.specs.States.{StateFitted};
 ghost use Rattle.fitting.specs.Tables.{value_at};
@@ -36,7 +36,7 @@ pub(crate) fn fit_state<M: Measure>(
     nodes: &mut [Node],
     place: usize,
 ) -> Fit
-    requires lines { All LineInRange lines.now }
+    requires lines { AllByRecursion LineInRange lines.now }
     requires room { place + 127 ≤ length nodes.old }
     requires low { place + 127 < 2 ^ 16 }
     ensures { StateFitted (M.price measure.now) lines.now (value_at sets.now) place nodes.old nodes.new result.behind result.cost }

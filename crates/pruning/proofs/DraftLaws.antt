@@ -1,6 +1,6 @@
 -- The rule of a draft is well-formed, by the ranges that reading its file asks for.
 use Rattle.std.proofs.Common.{◌≡◌, ℕ, zero, suc, ◌+◌, ◌-◌, ◌<◌, ◌≤◌, true, ◌&&◌, ◌||◌, T, eqb, ltb, leb, ◌⊎◌, List, [], ◌∷◌, map, length, get_or, is_ok, Some, None, Ok, Err, Option, Result, sym, refl, ap, ◌∙◌, subst, inl, inr, le_of_suc-le-suc, not-suc-le-zero, arith}
-use Rattle.std.specs.List.{AllByRecursion as All}
+use Rattle.std.specs.List.{AllByRecursion}
 use Rattle.std.proofs.lemmas.List.{length-map}
 use Rattle.std.proofs.ByRecursion.{All-map, All-weaker}
 use Rattle.std.proofs.lemmas.Bool.{ltb-true, eqb-true, or_cases, and_parts}
@@ -94,7 +94,7 @@ in_row left one P holds (suc k) s p r h =
     let z = sym (inside_ok rest.2) in
     rw z (holds s p a.0 a.1, in_row left one P holds k (left a.0.value) a.0.next rest.0 rest.1)
 
-row_all : {A S : Type 0} (left : A → S) (P : S → A → Type 0) (Q : A → Type 0) → ((s : S) (x : A) → P s x → Q x) → (s : S) (xs : List A) → InRow left P s xs → All Q xs
+row_all : {A S : Type 0} (left : A → S) (P : S → A → Type 0) (Q : A → Type 0) → ((s : S) (x : A) → P s x → Q x) → (s : S) (xs : List A) → InRow left P s xs → AllByRecursion Q xs
 unfolding InRow
 row_all left P Q weak s [] h = tt
 row_all left P Q weak s (x ∷ xs) h = (weak s x h.0, row_all left P Q weak (left x) xs h.1)
@@ -147,7 +147,7 @@ start_is (s ∷ ss) e = go (start_is ss) (or_cases s.state.start (any_start ss) 
 -- ---- the whole file
 
 module _ (f : List ℕ) (c : Contents) (h : file_of f ≡ Ok c) where
-  rows_within : All (λ l. LineInRange l.line) c.lines × (any_start c.states ≡ true)
+  rows_within : AllByRecursion (λ l. LineInRange l.line) c.lines × (any_start c.states ≡ true)
   unfolding file_of
   rows_within =
       let version = then_ok (λ e. e) (count_at f 0 1 1) _ c h in
@@ -168,7 +168,7 @@ module _ (f : List ℕ) (c : Contents) (h : file_of f ≡ Ok c) where
       in_row Some (next_move_at f (length c.states)) (Next (length c.states)) (next-within f (length c.states) p.some)
       (length c.moves) None c.moves_start (record { value = c.moves; next = p.moves_next }) p.moves_read
 
-  moves-within : All (Within (length c.states)) c.moves
+  moves-within : AllByRecursion (Within (length c.states)) c.moves
   unfolding Next
   moves-within = row_all Some (Next (length c.states)) (Within (length c.states)) (λ s x p. p.0) None c.moves moves_row
 

@@ -2,7 +2,7 @@
 -- promised by the calls, in the words of the crate `rules`.
 use Rattle.std.specs.Prelude.{ℕ, zero, suc, ◌-◌, ◌^◌, ◌<◌, Bool, false, not, ◌&&◌, ◌||◌, List, [], ◌∷◌, length, ◌==◌, bit_and, slice_index, slice_index_or}
 use Rattle.std.specs.Int.Count.{count_trailing_zeros}
-use Rattle.std.specs.List.{AllByRecursion as All}
+use Rattle.std.specs.List.{AllByRecursion}
 use Rattle.events.specs.Sets.{has, set_of}
 use Rattle.events.specs.Cells.{covers}
 use Rattle.rules.specs.declared.Move.{Move}
@@ -18,7 +18,7 @@ pub record InRange (m : Move) : Type 0 where
 
 -- each move is in range
 abbrev pub Ranged : List Move → Type 0
-Ranged moves = All InRange moves
+Ranged moves = AllByRecursion InRange moves
 
 -- ---- sets of states, in rounds
 

@@ -1,6 +1,6 @@
 -- A name, a line card, a state card and a move are taken exactly where the bytes are their encodings.
 use Rattle.std.proofs.Common.{◌≡◌, ℕ, zero, suc, ◌+◌, ◌-◌, ◌<◌, ◌≤◌, Bool, true, false, cond, not, leb, List, [], ◌∷◌, ◌++◌, length, get_or, drop, Ok, sym, refl, ap, ◌∙◌, subst, arith}
-use Rattle.std.specs.List.{AllByRecursion as All}
+use Rattle.std.specs.List.{AllByRecursion}
 use Rattle.std.proofs.lemmas.List.{drop_more}
 use Rattle.std.proofs.lemmas.Bool.{leb-true, le-leb, lt-leb, leb-false, and_parts, and_from}
 use Rattle.codec.specs.declared.fault.CardFault.TheVariants as card
@@ -43,7 +43,7 @@ not_false false e = sym e
 
 module _ (f : List ℕ) (octets : Octets f) where
   -- name bytes
-  pub name_end_sound : (k p q : ℕ) → p ≤ length f → name_end f p k ≡ Ok q → (name : List ℕ) × (length name ≡ k) × All Printed name × Spans f p name q
+  pub name_end_sound : (k p q : ℕ) → p ≤ length f → name_end f p k ≡ Ok q → (name : List ℕ) × (length name ≡ k) × AllByRecursion Printed name × Spans f p name q
   name_end_sound zero p q h e =
       let z : p ≡ q = inside_ok e in
       ([], refl, tt, rw (← z) (span_none f p h))
@@ -56,7 +56,7 @@ module _ (f : List ℕ) (octets : Octets f) where
       let s : Spans f p (get_or f p 0 ∷ []) (p + 1) = record { are = drop_more f p 0 w; inside = omega arith } in
       (get_or f p 0 ∷ r.0, ap suc r.1, ((leb-true _ _ parts.0, leb-true _ _ parts.1), r.2), join f p (p + 1) q (get_or f p 0 ∷ []) r.0 s r.3)
 
-  pub name_end_complete : (name : List ℕ) (p q : ℕ) → p ≤ length f → All Printed name → Spans f p name q → name_end f p (length name) ≡ Ok q
+  pub name_end_complete : (name : List ℕ) (p q : ℕ) → p ≤ length f → AllByRecursion Printed name → Spans f p name q → name_end f p (length name) ≡ Ok q
   name_end_complete [] p q h g s = let e = span_end f p q [] h s in let e' : p ≡ q = omega arith in ap Ok e'
   name_end_complete (x ∷ name) p q h g s =
       let t = split f p q (x ∷ []) name h s in

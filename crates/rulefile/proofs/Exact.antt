@@ -1,6 +1,6 @@
 -- A file is taken exactly when it is the bytes of a good rule.
 use Rattle.std.proofs.Common.{◌≡◌, ℕ, zero, suc, ◌+◌, ◌-◌, ◌<◌, ◌≤◌, true, false, ◌&&◌, ◌||◌, eqb, ltb, leb, ◌⊎◌, List, [], ◌∷◌, ◌++◌, map, length, take, drop, Some, None, Ok, Option, Result, sym, refl, ap, ◌∙◌, subst, inl, inr, ⊎_elim, arith}
-use Rattle.std.specs.List.{flat_map, AllByRecursion as All}
+use Rattle.std.specs.List.{flat_map, AllByRecursion}
 use Rattle.std.proofs.lemmas.List.{length-map, append-nil, drop_all, map-id}
 use Rattle.std.proofs.lemmas.Bool.{ltb-true, ltb-false, le-ltb, lt-ltb, lt-leb, eqb-true, eq-eqb, or_cases, or_left, or_right, and_parts, and_from}
 use Rattle.rulefile.specs.declared.fault.FileFault.{FileFault}
@@ -166,12 +166,12 @@ rule_same : (r : Rule) (ls : List LineValue) (ss : List StateValue) (ms : List M
 rule_same r ls ss ms a b c = rw (a, b, c)
 
 -- cards that do not look at the one before
-all_row : {V : Type 0} (G : V → Type 0) (vs : List V) → GoodRow {S = Unit {0}} (λ _. tt) (λ _. G) tt vs → All G vs
+all_row : {V : Type 0} (G : V → Type 0) (vs : List V) → GoodRow {S = Unit {0}} (λ _. tt) (λ _. G) tt vs → AllByRecursion G vs
 unfolding GoodRow
 all_row G [] g = tt
 all_row G (v ∷ vs) g = (g.0, all_row G vs g.1)
 
-row_all : {V : Type 0} (G : V → Type 0) (vs : List V) → All G vs → GoodRow {S = Unit {0}} (λ _. tt) (λ _. G) tt vs
+row_all : {V : Type 0} (G : V → Type 0) (vs : List V) → AllByRecursion G vs → GoodRow {S = Unit {0}} (λ _. tt) (λ _. G) tt vs
 unfolding GoodRow
 row_all G [] g = tt
 row_all G (v ∷ vs) g = (g.0, row_all G vs g.1)
@@ -198,7 +198,7 @@ before_complete a b (inr h) = or_right _ _ (and_from _ _ (eq-eqb _ _ h.0) (go h.
     go (inl k) = or_left _ _ (lt-ltb _ _ k)
     go (inr k) = or_right _ _ (and_from _ _ (eq-eqb _ _ k.0) (lt-ltb _ _ k.1))
 
-moves_all : (k : ℕ) (last : Option Move) (ms : List Move) → GoodRow Some (GoodNext k) last ms → All (GoodMove k) ms
+moves_all : (k : ℕ) (last : Option Move) (ms : List Move) → GoodRow Some (GoodNext k) last ms → AllByRecursion (GoodMove k) ms
 unfolding GoodRow GoodNext
 moves_all k last [] g = tt
 moves_all k last (m ∷ ms) g = (g.0.0, moves_all k (Some m) ms g.1)
@@ -213,12 +213,12 @@ unfolding GoodRow GoodNext
 moves_ascend k [] g = tt
 moves_ascend k (m ∷ ms) g = moves_after k m ms g.1
 
-after_moves : (k : ℕ) (a : Move) (ms : List Move) → All (GoodMove k) ms → Ascending (a ∷ ms) → GoodRow Some (GoodNext k) (Some a) ms
+after_moves : (k : ℕ) (a : Move) (ms : List Move) → AllByRecursion (GoodMove k) ms → Ascending (a ∷ ms) → GoodRow Some (GoodNext k) (Some a) ms
 unfolding GoodRow GoodNext
 after_moves k a [] g h = tt
 after_moves k a (m ∷ ms) g h = ((g.0, before_complete a m h.0), after_moves k m ms g.1 h.1)
 
-row_moves : (k : ℕ) (ms : List Move) → All (GoodMove k) ms → Ascending ms → GoodRow Some (GoodNext k) None ms
+row_moves : (k : ℕ) (ms : List Move) → AllByRecursion (GoodMove k) ms → Ascending ms → GoodRow Some (GoodNext k) None ms
 unfolding GoodRow GoodNext
 row_moves k [] g h = tt
 row_moves k (m ∷ ms) g h = ((g.0, refl), after_moves k m ms g.1 h)
@@ -312,7 +312,7 @@ module _ (f : List ℕ) (octets : Octets f) where
               states-good = all_row GoodState _ s4.1;
               start = start_sound f states.value start;
               few-moves = omega (arith, s6.0, s5.1);
-              moves-good = subst (λ k. All (GoodMove k) moves.value) (sym count) (moves_all n.value None moves.value g6);
+              moves-good = subst (λ k. AllByRecursion (GoodMove k) moves.value) (sym count) (moves_all n.value None moves.value g6);
               ascending = moves_ascend n.value moves.value g6;
             },
             closed f _ moves.next whole past,

@@ -1,6 +1,6 @@
 -- The format of a rule file, as the bytes of a rule; and that a file is taken exactly when it follows it.
 use Rattle.std.specs.Prelude.{◌≡◌, ℕ, ◌+◌, ◌<◌, ◌≤◌, true, cond, ◌⊎◌, List, [], ◌∷◌, ◌++◌, map, length, take, drop, Ok}
-use Rattle.std.specs.List.{flat_map, AllByRecursion as All}
+use Rattle.std.specs.List.{flat_map, AllByRecursion}
 use Rattle.codec.specs.Number.{encode, Octets}
 use Rattle.rules.specs.declared.Move.{Move}
 use Rattle.rules.specs.declared.State.{State}
@@ -51,7 +51,7 @@ encode_rule r =
 -- at most 16 bytes, each from 33 to 126
 pub record GoodName (name : List ℕ) : Type 0 where
   pub short : length name ≤ 16
-  pub printed : All (λ b. (33 ≤ b) × (b ≤ 126)) name
+  pub printed : AllByRecursion (λ b. (33 ≤ b) × (b ≤ 126)) name
 
 -- a cost of 1 to 1,000 and a chance of 0 to 100
 pub record GoodLine (l : LineValue) : Type 0 where
@@ -86,13 +86,13 @@ HasStart (s ∷ ss) = (s.state.start ≡ true) ⊎ HasStart ss
 -- six lines, 1 to 32 states with a start state among them, at most 1,024 moves, strictly ascending, all in their ranges
 pub record GoodRule (r : Rule) : Type 0 where
   pub six : length r.lines ≡ 6
-  pub lines-good : All GoodLine r.lines
+  pub lines-good : AllByRecursion GoodLine r.lines
   pub some : 1 ≤ length r.states
   pub few : length r.states ≤ 32
-  pub states-good : All GoodState r.states
+  pub states-good : AllByRecursion GoodState r.states
   pub start : HasStart r.states
   pub few-moves : length r.moves ≤ 1024
-  pub moves-good : All (GoodMove (length r.states)) r.moves
+  pub moves-good : AllByRecursion (GoodMove (length r.states)) r.moves
   pub ascending : Ascending r.moves
 
 -- ---- records and the rule that they stand for

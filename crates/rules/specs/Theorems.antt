@@ -1,6 +1,6 @@
 -- The theorems that stand on the definitions alone, as statements.
 use Rattle.std.specs.Prelude.{◌≡◌, ℕ, ◌<◌, ◌≤◌, ◌↔◌, List, ◌++◌, length, take}
-use Rattle.std.specs.List.{AllByRecursion as All}
+use Rattle.std.specs.List.{AllByRecursion}
 use Rattle.events.specs.Sets.{◌∈◌}
 use Rattle.rules.specs.declared.Line.{Line}
 use Rattle.rules.specs.declared.Node.{Node}
@@ -27,11 +27,11 @@ EndingsReachLive = (rule : Rule) (es : List ℕ) → Ending rule es ↔ ReachesL
 
 -- events that a run leads to a safe state have an ending, however they go on
 abbrev pub SafeKeepsEndings : Type 0
-SafeKeepsEndings = (rule : Rule) (es more : List ℕ) → All (Event rule) more → ReachesSafe rule es → Ending rule (es ++ more)
+SafeKeepsEndings = (rule : Rule) (es more : List ℕ) → AllByRecursion (Event rule) more → ReachesSafe rule es → Ending rule (es ++ more)
 
 -- events with no ending have none however they go on
 abbrev pub NoEndingStays : Type 0
-NoEndingStays = (rule : Rule) (es more : List ℕ) → All (Event rule) more → NoEnding rule es → NoEnding rule (es ++ more)
+NoEndingStays = (rule : Rule) (es more : List ℕ) → AllByRecursion (Event rule) more → NoEnding rule es → NoEnding rule (es ++ more)
 
 -- ---- pruned moves
 
@@ -92,7 +92,7 @@ StandsDetermined = (nodes : List Node) (t t' : Tree) (place : ℕ) → Stands no
 -- the verdict that a watch keeps, read from the held sets alone, is the one to be shown
 abbrev pub VerdictShown : Type 0
 VerdictShown =
-    (rule : Rule) (trees : List Tree) → Sound rule trees → (es : List ℕ) → All (Event rule) es
+    (rule : Rule) (trees : List Tree) → Sound rule trees → (es : List ℕ) → AllByRecursion (Event rule) es
     → (set : ℕ) (v : Verdict) → Watches rule trees es set v → Shows rule es v
 
 -- what the set held after the events es means
@@ -107,7 +107,7 @@ pub record SetSays (rule : Rule) (es : List ℕ) (set : ℕ) : Type 0 where
 -- the held set means so
 abbrev pub HeldMeans : Type 0
 HeldMeans =
-    (rule : Rule) (trees : List Tree) → Sound rule trees → (es : List ℕ) → All (Event rule) es
+    (rule : Rule) (trees : List Tree) → Sound rule trees → (es : List ℕ) → AllByRecursion (Event rule) es
     → (set : ℕ) → Held rule trees es set → SetSays rule es set
 
 -- the trees of a fitted rule serve its states
@@ -120,7 +120,7 @@ FittedSound =
 abbrev pub ClearPollsNothing : Type 0
 ClearPollsNothing =
     (price : Price) (rule : Rule) (trees : List Tree) (costs : List ℕ) → WellFormed rule → SafeDecided rule → FittedAll price rule trees costs
-    → (es : List ℕ) (held i e : ℕ) → All (Event rule) es → Watches rule trees es held (verdict.ClearSince i) → polls_of trees held e ≡ 0
+    → (es : List ℕ) (held i e : ℕ) → AllByRecursion (Event rule) es → Watches rule trees es held (verdict.ClearSince i) → polls_of trees held e ≡ 0
 
 -- ---- the whole promise
 
@@ -128,7 +128,7 @@ ClearPollsNothing =
 abbrev pub PromiseDetermined : Type 0
 PromiseDetermined =
     (price : Price) (rule : Rule) (trees trees' : List Tree) (costs costs' : List ℕ) (calls : List Call) (coming : List ℕ)
-    (answers answers' : List Answer) (left left' : List ℕ) → All (Event rule) coming
+    (answers answers' : List Answer) (left left' : List ℕ) → AllByRecursion (Event rule) coming
     → Promise price rule trees costs calls coming answers left → Promise price rule trees' costs' calls coming answers' left'
     → (trees ≡ trees') × (costs ≡ costs') × (answers ≡ answers') × (left ≡ left')
 

@@ -1,6 +1,6 @@
 -- A change log is taken exactly where its bytes are those of pairs in range, and refused for its leftmost fault.
 use Rattle.std.proofs.Common.{◌≡◌, ℕ, zero, suc, ◌+◌, ◌<◌, ◌≤◌, true, List, [], ◌∷◌, ◌++◌, length, drop, is_ok, IfErr, Ok, Err, Decides, Result, sym, refl, ap, ◌∙◌, subst, ⊎_elim, zero-add, arith}
-use Rattle.std.specs.List.{AllByRecursion as All}
+use Rattle.std.specs.List.{AllByRecursion}
 use Rattle.std.proofs.lemmas.List.{append-nil, drop_all, length-drop}
 use Rattle.std.proofs.lemmas.Bool.{cases_lt}
 use Rattle.codec.specs.declared.fault.CardFault.{CardFault}
@@ -51,18 +51,18 @@ module _ (f : List ℕ) (octets : Octets f) where
 
   -- the pairs up to the end
   Reads : ℕ → Type 0
-  Reads p = (pairs : List Pair) → pairs_from f p ≡ Ok pairs → p ≤ length f → All InRange pairs × Spans f p (encode_pairs pairs) (length f)
+  Reads p = (pairs : List Pair) → pairs_from f p ≡ Ok pairs → p ≤ length f → AllByRecursion InRange pairs × Spans f p (encode_pairs pairs) (length f)
 
   pairs_sound_step : (p : ℕ) → p < length f → ((q : ℕ) → p < q → Reads q) → Reads p
   unfolding Reads
   pairs_sound_step p l later pairs h b = go (pair_at f p) refl
     where
-      go : (r : Result (Read Pair) CardFault) → pair_at f p ≡ r → All InRange pairs × Spans f p (encode_pairs pairs) (length f)
+      go : (r : Result (Read Pair) CardFault) → pair_at f p ≡ r → AllByRecursion InRange pairs × Spans f p (encode_pairs pairs) (length f)
       go (Ok a) e =
           let s = pair_sound p a e in
           let x = pushed_ok a.value (pairs_from f a.next) pairs (sym (pairs_more f p a e) ∙ h) in
           let t = later a.next (pair_from f p a e).1 x.0 x.1 s.1.inside in
-          subst (λ (ps : List Pair). All InRange ps × Spans f p (encode_pairs ps) (length f)) (sym x.2)
+          subst (λ (ps : List Pair). AllByRecursion InRange ps × Spans f p (encode_pairs ps) (length f)) (sym x.2)
           ((s.0, t.0), join f p a.next (length f) (encode_pair a.value) (encode_pairs x.0) s.1 t.1)
       go (Err d) e = ok_not_err pairs d (pairs_from f p) h (pairs_fault f p d l e)
 
@@ -71,7 +71,7 @@ module _ (f : List ℕ) (octets : Octets f) where
   pairs_sound_end p b pairs h l =
       let none : [] ≡ pairs = inside_ok (sym (pairs_end f p b) ∙ h) in
       let same : p ≡ length f = omega arith in
-      subst (λ (ps : List Pair). All InRange ps × Spans f p (encode_pairs ps) (length f)) none
+      subst (λ (ps : List Pair). AllByRecursion InRange ps × Spans f p (encode_pairs ps) (length f)) none
       (tt, subst (λ (q : ℕ). Spans f p [] q) same (span_none f p l))
 
   pairs_sound_within : (k p : ℕ) → length f ≤ p + k → Reads p
@@ -80,7 +80,7 @@ module _ (f : List ℕ) (octets : Octets f) where
       ⊎_elim (λ l. pairs_sound_step p l (λ q m. pairs_sound_within k q (omega arith))) (λ l. pairs_sound_end p l) (cases_lt p (length f))
 
   -- pairs in range are read
-  pairs_complete : (pairs : List Pair) (p : ℕ) → All InRange pairs → p ≤ length f → Spans f p (encode_pairs pairs) (length f) → pairs_from f p ≡ Ok pairs
+  pairs_complete : (pairs : List Pair) (p : ℕ) → AllByRecursion InRange pairs → p ≤ length f → Spans f p (encode_pairs pairs) (length f) → pairs_from f p ≡ Ok pairs
   pairs_complete [] p r l s = let e = span_end f p (length f) [] l s in pairs_end f p (omega arith)
   pairs_complete (pair ∷ pairs) p r l s =
       let t = split f p (length f) (encode_pair pair) (encode_pairs pairs) l s in
@@ -91,14 +91,14 @@ module _ (f : List ℕ) (octets : Octets f) where
   -- the leftmost fault, from a place on
   HasFault : ℕ → Type 0
   HasFault p = (fault : CardFault) → pairs_from f p ≡ Err fault → p ≤ length f
-      → (pairs : List Pair) × (q : ℕ) × All InRange pairs × Spans f p (encode_pairs pairs) q × (q < length f) × (pair_at f q ≡ Err fault)
+      → (pairs : List Pair) × (q : ℕ) × AllByRecursion InRange pairs × Spans f p (encode_pairs pairs) q × (q < length f) × (pair_at f q ≡ Err fault)
 
   left_step : (p : ℕ) → p < length f → ((q : ℕ) → p < q → HasFault q) → HasFault p
   unfolding HasFault
   left_step p l later fault h b = go (pair_at f p) refl
     where
       go : (r : Result (Read Pair) CardFault) → pair_at f p ≡ r
-          → (pairs : List Pair) × (q : ℕ) × All InRange pairs × Spans f p (encode_pairs pairs) q × (q < length f) × (pair_at f q ≡ Err fault)
+          → (pairs : List Pair) × (q : ℕ) × AllByRecursion InRange pairs × Spans f p (encode_pairs pairs) q × (q < length f) × (pair_at f q ≡ Err fault)
       go (Ok a) e =
           let s = pair_sound p a e in
           let x = later a.next (pair_from f p a e).1 fault (pushed_err a.value (pairs_from f a.next) fault (sym (pairs_more f p a e) ∙ h)) s.1.inside in
@@ -125,11 +125,11 @@ module _ (f : List ℕ) (octets : Octets f) where
       record { are = e ∙ sym (ap (λ (rest : List ℕ). bytes ++ rest) none ∙ append-nil bytes); inside = omega arith }
 
   -- what is read of a whole log
-  pub log_sound : (pairs : List Pair) → pairs_from f 0 ≡ Ok pairs → All InRange pairs × (f ≡ encode_pairs pairs)
+  pub log_sound : (pairs : List Pair) → pairs_from f 0 ≡ Ok pairs → AllByRecursion InRange pairs × (f ≡ encode_pairs pairs)
   unfolding Reads
   log_sound pairs h = let s = pairs_sound_within (length f) 0 (omega arith) pairs h (omega arith) in (s.0, whole-bytes (encode_pairs pairs) s.1)
 
-  pub log_complete : (pairs : List Pair) → All InRange pairs → f ≡ encode_pairs pairs → pairs_from f 0 ≡ Ok pairs
+  pub log_complete : (pairs : List Pair) → AllByRecursion InRange pairs → f ≡ encode_pairs pairs → pairs_from f 0 ≡ Ok pairs
   log_complete pairs r e = pairs_complete pairs 0 r (omega arith) (bytes_whole (encode_pairs pairs) e)
 
   pub log_left : (fault : CardFault) → pairs_from f 0 ≡ Err fault → LeftmostFault f fault

@@ -7,7 +7,7 @@ use Rattle.codec.specs.declared.read.Read.{Read}
 use Rattle.sources.specs.declared.change.Pair.{Pair}
 use Rattle.sources.specs.declared.change.Run.{Run}
 use Rattle.codec.specs.Number.{Octets}
-use Rattle.std.specs.List.{AllByRecursion as All}
+use Rattle.std.specs.List.{AllByRecursion}
 use Rattle.sources.specs.ChangeLogs.{InRange, encode_pairs, expand, pair_at, pairs_from, pairs_or, checked_pairs, change_events, played_from, run_of, run_after}
 use Rattle.sources.specs.Small.{pair_range}
 use Rattle.sources.specs.Waiting.{first_of, later_of}
@@ -122,7 +122,7 @@ module _ (f : List ℕ) where
   refused_plays fault h = ap (λ (r : Result (List Pair) CardFault). expand 0 (pairs_or r)) (pairs_end [] 0 (omega arith)) ∙ ap (expand 0) (none_from fault (pairs_from f 0) h)
 
   -- what is played of the bytes of pairs in range
-  pub plays_pairs : (events : List ℕ) → Octets f → events ≡ change_events f → (pairs : List Pair) → All InRange pairs → f ≡ encode_pairs pairs → events ≡ expand 0 pairs
+  pub plays_pairs : (events : List ℕ) → Octets f → events ≡ change_events f → (pairs : List Pair) → AllByRecursion InRange pairs → f ≡ encode_pairs pairs → events ≡ expand 0 pairs
   plays_pairs events octets e pairs r b = e ∙ ap (λ (r : Result (List Pair) CardFault). expand 0 (pairs_or r)) (log_complete f octets pairs r b)
 
 pub empty_sound : Playable [] (record { next = 0; current = 0; left = 0 })

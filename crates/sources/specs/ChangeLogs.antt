@@ -1,6 +1,6 @@
 -- What a change log is: pairs of numbers, each a count and the lines that are turned over before it.
 use Rattle.std.specs.Prelude.{◌≡◌, ℕ, zero, suc, ◌-◌, ◌<◌, ◌≤◌, cond, List, [], ◌∷◌, ◌++◌, length, replicate, Ok, Err, Result, bit_xor, nat_le, nat_lt}
-use Rattle.std.specs.List.{AllByRecursion as All}
+use Rattle.std.specs.List.{AllByRecursion}
 use Rattle.codec.specs.declared.fault.CardFault.{CardFault}
 use Rattle.codec.specs.declared.read.Read.{Read}
 use Rattle.codec.specs.Field.{field_at}
@@ -33,7 +33,7 @@ expand event (pair ∷ pairs) = replicate pair.count (bit_xor event pair.flips) 
 
 -- the bytes are those of some pairs, each in range
 abbrev pub IsChangeLog : List ℕ → Type 0
-IsChangeLog bytes = (pairs : List Pair) × All InRange pairs × (bytes ≡ encode_pairs pairs)
+IsChangeLog bytes = (pairs : List Pair) × AllByRecursion InRange pairs × (bytes ≡ encode_pairs pairs)
 
 -- ---- reading, by the bytes at a place
 
@@ -64,7 +64,7 @@ checked_pairs pairs = and_then (λ e. e) pairs (λ _. Ok tt)
 -- the leftmost fault: whole pairs in range stand before it, and the pair behind them has it
 abbrev pub LeftmostFault : List ℕ → CardFault → Type 0
 LeftmostFault bytes fault =
-    (pairs : List Pair) × (rest : List ℕ) × All InRange pairs × (bytes ≡ encode_pairs pairs ++ rest) × (0 < length rest)
+    (pairs : List Pair) × (rest : List ℕ) × AllByRecursion InRange pairs × (bytes ≡ encode_pairs pairs ++ rest) × (0 < length rest)
     × (pair_at bytes (length (encode_pairs pairs)) ≡ Err fault)
 
 -- ---- playing

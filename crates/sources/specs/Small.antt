@@ -1,7 +1,7 @@
 -- That what each source means is a list of events, numbers below 64: a source gives this proof with its list. Lemmas, and no definitions that a contract is read by.
 use Rattle.std.specs.Prelude.{◌≡◌, ℕ, zero, suc, ◌<◌, ◌≤◌, Bool, true, false, cond, ◌||◌, List, [], ◌∷◌, length, drop, replicate, Ok, Err, Result, bit_xor, nat_le, nat_lt, slice_index, refl}
 use Rattle.std.proofs.Common.{arith, ap}
-use Rattle.std.specs.List.{AllByRecursion as All}
+use Rattle.std.specs.List.{AllByRecursion}
 use Rattle.std.proofs.lemmas.Nat.{xor_lt}
 use Rattle.std.proofs.ByRecursion.{All-append, All-drop, All-from_get_or}
 use Rattle.std.proofs.lemmas.Bool.{ltb-false, or_parts}
@@ -57,7 +57,7 @@ pair_range f p a h =
 
 -- each pair turns over lines
 abbrev Flips : List Pair → Type 0
-Flips pairs = All (λ pair. pair.flips < 64) pairs
+Flips pairs = AllByRecursion (λ pair. pair.flips < 64) pairs
 
 pairs_small : (k : ℕ) (f : List ℕ) (p : ℕ) → Flips (pairs_or (pairs_within k f p))
 unfolding pairs_within

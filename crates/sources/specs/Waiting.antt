@@ -1,13 +1,13 @@
 -- What a line source answers, from the list of events still to come.
 use Rattle.std.specs.Prelude.{ℕ, ◌<◌, Bool, cond, List, [], ◌∷◌, is_some, Some, None, Ok, Err, Option, Result, nat_lt}
-use Rattle.std.specs.List.{AllByRecursion as All}
+use Rattle.std.specs.List.{AllByRecursion}
 use Rattle.events.specs.Sets.{has}
 use Rattle.sources.specs.declared.source.SourceRefusal.{SourceRefusal}
 use Rattle.sources.specs.declared.source.SourceRefusal.TheVariants.{NoSuchLine, NothingWaiting}
 
 -- each number is an event: below 64, since each of six lines is on or off
 abbrev pub AllEvents : List ℕ → Type 0
-AllEvents events = All (λ event. event < 64) events
+AllEvents events = AllByRecursion (λ event. event < 64) events
 
 -- the number that each refusal is told by
 abbrev pub source_number : SourceRefusal → ℕ

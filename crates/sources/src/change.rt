@@ -1,6 +1,6 @@
 // The change log: pairs of numbers, a count and the lines that are turned over before it. It is played without being written out.
 ghost use Rattle.std.specs.Prelude.{◌≡◌, ◌<◌, ◌≤◌, true, List, length, is_ok, IfOk, IfErr, Decides};
-ghost use Rattle.std.specs.List.{AllByRecursion as All};
+ghost use Rattle.std.specs.List.{AllByRecursion};
 ghost use Rattle.sources.specs.ChangeLogs.{change_events, checked_pairs, expand, pair_at, pairs_from, played_from, run_of};
 ghost use Rattle.sources.specs.ChangeLogs.{InRange, IsChangeLog, LeftmostFault, encode_pairs, run_after};
 ghost use Rattle.sources.specs.Small.{change_small};
@@ -114,7 +114,7 @@ impl<'a> ChangeLog<'a> {
     // The log of these bytes, or the empty log where the check refuses them.
     pub fn over(bytes: &'a [u8]) -> Self
         ensures played { played_from result.bytes.now result.run ≡ change_events bytes.now }
-        ensures means { (pairs : List Pair) → All InRange pairs → bytes.now ≡ encode_pairs pairs → played_from result.bytes.now result.run ≡ expand 0 pairs }
+        ensures means { (pairs : List Pair) → AllByRecursion InRange pairs → bytes.now ≡ encode_pairs pairs → played_from result.bytes.now result.run ≡ expand 0 pairs }
     {
         match check_changes(bytes) {
             Ok(()) => ChangeLog {

@@ -1,7 +1,7 @@
 -- What an implementation shows of its masks: reachability as a least closed set, live and safe states, and sets that settle in 32 rounds.
 use Rattle.std.proofs.Common.{◌≡◌, ℕ, zero, suc, ◌-◌, ◌^◌, ◌<◌, ◌≤◌, Bool, true, false, T, ◌⊎◌, ◌↔◌, List, [], ◌∷◌, sym, refl, ap, ◌∙◌, subst, inl, inr, le_refl, not-suc-le-zero, arith, lit≤}
 use Rattle.std.proofs.lemmas.Bool.{cases_eq, cases_lt}
-use Rattle.std.specs.List.{AllByRecursion as All}
+use Rattle.std.specs.List.{AllByRecursion}
 use Rattle.rules.specs.declared.Move.{Move}
 use Rattle.events.specs.Sets.{has, ◌∈◌}
 use Rattle.events.specs.Cells.{Covers, lowest, one_if, count_below}
@@ -19,7 +19,7 @@ Edge rule q r = (e : ℕ) × Event rule e × Step rule q e r
 
 -- some events lead from q to r
 abbrev pub Way : Rule → ℕ → ℕ → Type 0
-Way rule q r = (es : List ℕ) × All (Event rule) es × Run rule q es r
+Way rule q r = (es : List ℕ) × AllByRecursion (Event rule) es × Run rule q es r
 
 -- some events lead from q into the set
 abbrev pub ReachesInto : Rule → ℕ → ℕ → Type 0
@@ -28,7 +28,7 @@ ReachesInto rule seed q = (r : ℕ) × (r ∈ seed) × Way rule q r
 pub into_more : (rule : Rule) (seed q r : ℕ) → Edge rule q r → ReachesInto rule seed r → ReachesInto rule seed q
 into_more rule seed q r (e, ok, step) (t, h, (es, oks, run)) = (t, h, (e ∷ es, (ok, oks), (r, step, run)))
 
-closed_run : (rule : Rule) (reach : ℕ) → ((q r : ℕ) → Edge rule q r → r ∈ reach → q ∈ reach) → (es : List ℕ) (q r : ℕ) → All (Event rule) es → Run rule q es r → r ∈ reach → q ∈ reach
+closed_run : (rule : Rule) (reach : ℕ) → ((q r : ℕ) → Edge rule q r → r ∈ reach → q ∈ reach) → (es : List ℕ) (q r : ℕ) → AllByRecursion (Event rule) es → Run rule q es r → r ∈ reach → q ∈ reach
 closed_run rule reach closed [] q r ok run h = subst (λ (n : ℕ). n ∈ reach) (sym run) h
 closed_run rule reach closed (e ∷ es) q r (ok, oks) (p, step, run) h = closed q p (e, ok, step) (closed_run rule reach closed es p r oks run h)
 
@@ -44,7 +44,7 @@ Turns rule a = Accepts rule a × ((r : ℕ) × Edge rule a r × Way rule r a)
 pub live_turns : (rule : Rule) (q : ℕ) → Live rule q → (a : ℕ) × Turns rule a × Way rule q a
 live_turns rule q l = (l.accepting, (l.accepts, turn l.v l.v_turns l.v-events l.round), (l.u, l.u-events, live-there rule q l))
   where
-    turn : (v : List ℕ) → NotEmpty v → All (Event rule) v → Run rule l.accepting v l.accepting → (r : ℕ) × Edge rule l.accepting r × Way rule r l.accepting
+    turn : (v : List ℕ) → NotEmpty v → AllByRecursion (Event rule) v → Run rule l.accepting v l.accepting → (r : ℕ) × Edge rule l.accepting r × Way rule r l.accepting
     turn [] n ok run = absurd n
     turn (e ∷ v) n (ok, oks) (r, step, run) = (r, (e, ok, step), (v, oks, run))
 

@@ -1,7 +1,7 @@
 -- Pruned sets are determined, and an event selects them from the pruned moves: to serve a state is to implement its pruned moves.
 use Rattle.std.proofs.Common.{◌≡◌, ℕ, ◌^◌, ◌<◌, Bool, true, false, cond, ◌&&◌, eqb, ◌⊎◌, ◌↔◌, List, [], ◌∷◌, sym, refl, subst, inl, inr, eqb→eq}
 use lib.Bits.{bit_or, or_lt}
-use Rattle.std.specs.List.{AllByRecursion as All}
+use Rattle.std.specs.List.{AllByRecursion}
 use Rattle.std.proofs.lemmas.Nat.{pow_below}
 use Rattle.std.proofs.lemmas.Bool.{eq-eqb}
 use Rattle.rules.specs.declared.Move.{Move}
@@ -58,7 +58,7 @@ pub ∈-selected : (gs : List Guarded) (e t : ℕ) → (t ∈ selected gs e) ↔
 ∈-selected [] e t = (∈_none t, (λ h. absurd h))
 ∈-selected (g ∷ gs) e t = selected_step g gs e t (∈-selected gs e t)
 
-pub selected-small : (gs : List Guarded) (e w : ℕ) → All (λ g. g.state < w) gs → selected gs e < 2 ^ w
+pub selected-small : (gs : List Guarded) (e w : ℕ) → AllByRecursion (λ g. g.state < w) gs → selected gs e < 2 ^ w
 selected-small [] e w ok = Rattle.std.proofs.lemmas.Nat.pow_pos w
 selected-small (g ∷ gs) e w ok = go (covers g.cell e) (selected-small gs e w ok.1)
   where
@@ -144,7 +144,7 @@ module _ (rule : Rule) (live safe release : ℕ) (kinds : Kinds rule live safe r
       go false p b p' false p'' (inl (l, n, x)) = absurd (false_T (has live q) p'' ((kinds.live_is q).1 l))
       go false p b p' c p'' (inr (rel, s)) = absurd (false_T (has safe q) p ((kinds.safe_is q).1 rel.0))
 
-  kept_small : (moves : List Move) (q : ℕ) → All (λ g. g.state < 32) (kept_moves live safe release q moves)
+  kept_small : (moves : List Move) (q : ℕ) → AllByRecursion (λ g. g.state < 32) (kept_moves live safe release q moves)
   kept_small [] q = tt
   kept_small (m ∷ moves) q = go (eqb m.from q && has live m.to) refl (kept_small moves q)
     where
@@ -152,16 +152,16 @@ module _ (rule : Rule) (live safe release : ℕ) (kinds : Kinds rule live safe r
       low l true p = safe_below rule release (kinds.release_is m.to ((kinds.safe_is m.to).0 (true_T (has safe m.to) p))).0
       low l false p = ∈_below 32 m.to live kinds.small l
 
-      go : (b : Bool) → eqb m.from q && has live m.to ≡ b → All (λ g. g.state < 32) (kept_moves live safe release q moves)
-          → All (λ g. g.state < 32) (cond b (record { cell = m.cell; state = cond (has safe m.to) release m.to } ∷ kept_moves live safe release q moves) (kept_moves live safe release q moves))
+      go : (b : Bool) → eqb m.from q && has live m.to ≡ b → AllByRecursion (λ g. g.state < 32) (kept_moves live safe release q moves)
+          → AllByRecursion (λ g. g.state < 32) (cond b (record { cell = m.cell; state = cond (has safe m.to) release m.to } ∷ kept_moves live safe release q moves) (kept_moves live safe release q moves))
       go true p ih = (low ((T_and (eqb m.from q) (has live m.to)).0 (true_T (eqb m.from q && has live m.to) p)).1 (has safe m.to) refl, ih)
       go false p ih = ih
 
-  pruned_small : (q : ℕ) → All (λ g. g.state < 32) (pruned_moves rule live safe release q)
+  pruned_small : (q : ℕ) → AllByRecursion (λ g. g.state < 32) (pruned_moves rule live safe release q)
   pruned_small q = go (has safe q) refl (eqb q release) (has live q)
     where
       go : (a : Bool) → has safe q ≡ a → (b c : Bool)
-          → All (λ g. g.state < 32) (cond a (cond b (record { cell = 0; state = q } ∷ []) []) (cond c (kept_moves live safe release q rule.moves) []))
+          → AllByRecursion (λ g. g.state < 32) (cond a (cond b (record { cell = 0; state = q } ∷ []) []) (cond c (kept_moves live safe release q rule.moves) []))
       go true p true c = (safe_below rule q ((kinds.safe_is q).0 (true_T (has safe q) p)), tt)
       go true p false c = tt
       go false p b true = kept_small rule.moves q

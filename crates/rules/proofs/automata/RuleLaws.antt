@@ -1,6 +1,6 @@
 -- What a well-formed rule promises, and the elements of a list by place.
 use Rattle.std.proofs.Common.{◌≡◌, ℕ, zero, suc, ◌<◌, ◌≤◌, true, ◌↔◌, List, [], ◌∷◌, length, get_or, sym, subst, inl, inr, le_of_suc-le-suc, not-suc-le-zero, arith}
-use Rattle.std.specs.List.{AllByRecursion as All}
+use Rattle.std.specs.List.{AllByRecursion}
 use Rattle.rules.specs.declared.State.{State}
 use Rattle.rules.specs.declared.Move.{Move}
 use Rattle.events.specs.Cells.{Covers}
@@ -10,7 +10,7 @@ use Rattle.rules.proofs.automata.RunLaws.{live-there}
 
 -- ---- elements by place
 
-pub all_at : {A : Type 0} (P : A → Type 0) (xs : List A) (i : ℕ) (d : A) → i < length xs → All P xs → P (get_or xs i d)
+pub all_at : {A : Type 0} (P : A → Type 0) (xs : List A) (i : ℕ) (d : A) → i < length xs → AllByRecursion P xs → P (get_or xs i d)
 all_at P [] i d l h = absurd (not-suc-le-zero l)
 all_at P (x ∷ xs) zero d l h = h.0
 all_at P (x ∷ xs) (suc i) d l h = all_at P xs i d (le_of_suc-le-suc l) h.1
@@ -41,7 +41,7 @@ state_at_lem P (x ∷ xs) d (suc q) =
 pub line_in_range : (rule : Rule) → WellFormed rule → (i : ℕ) → i < 6 → LineInRange (line_of rule.lines i)
 line_in_range rule well i l = all_at LineInRange rule.lines i (record { cost = 0; chance = 0 }) (omega (arith, well.six-lines)) well.lines_fit
 
-step_in_range : (rule : Rule) (moves : List Move) (q e r : ℕ) → All (MoveInRange rule) moves → Any (λ m. (m.from ≡ q) × Covers m.cell e × (m.to ≡ r)) moves
+step_in_range : (rule : Rule) (moves : List Move) (q e r : ℕ) → AllByRecursion (MoveInRange rule) moves → Any (λ m. (m.from ≡ q) × Covers m.cell e × (m.to ≡ r)) moves
     → (q < length rule.states) × (r < length rule.states)
 step_in_range rule [] q e r ok h = absurd h
 step_in_range rule (m ∷ moves) q e r ok (inl (p, c, p')) =

@@ -1,6 +1,6 @@
 -- Runs one after the other, endings as runs to live states, and what a safe state promises.
 use Rattle.std.proofs.Common.{◌≡◌, ℕ, zero, suc, ◌<◌, ◌⊎◌, List, [], ◌∷◌, ◌++◌, sym, refl, subst, inl, inr, append_assoc, arith}
-use Rattle.std.specs.List.{AllByRecursion as All}
+use Rattle.std.specs.List.{AllByRecursion}
 use Rattle.events.specs.Sets.{◌∈◌}
 use Rattle.rules.specs.automata.Rules.{Rule, Event}
 use Rattle.rules.specs.automata.Runs.{Step, Run, Ending, Live, SafeSet, Safe, ReachesLive, ReachesSafe, NoEnding}
@@ -12,15 +12,15 @@ use Rattle.events.proofs.SetLaws.{∈_below}
 pub event_below : (rule : Rule) (e : ℕ) → Event rule e → e < 64
 event_below rule e h = h
 
-pub all_++ : {A : Type 0} (P : A → Type 0) (xs ys : List A) → All P xs → All P ys → All P (xs ++ ys)
+pub all_++ : {A : Type 0} (P : A → Type 0) (xs ys : List A) → AllByRecursion P xs → AllByRecursion P ys → AllByRecursion P (xs ++ ys)
 all_++ P [] ys h k = k
 all_++ P (x ∷ xs) ys h k = (h.0, all_++ P xs ys h.1 k)
 
-pub all_left : {A : Type 0} (P : A → Type 0) (xs ys : List A) → All P (xs ++ ys) → All P xs
+pub all_left : {A : Type 0} (P : A → Type 0) (xs ys : List A) → AllByRecursion P (xs ++ ys) → AllByRecursion P xs
 all_left P [] ys h = tt
 all_left P (x ∷ xs) ys h = (h.0, all_left P xs ys h.1)
 
-pub all_right : {A : Type 0} (P : A → Type 0) (xs ys : List A) → All P (xs ++ ys) → All P ys
+pub all_right : {A : Type 0} (P : A → Type 0) (xs ys : List A) → AllByRecursion P (xs ++ ys) → AllByRecursion P ys
 all_right P [] ys h = h
 all_right P (x ∷ xs) ys h = all_right P xs ys h.1
 
@@ -46,7 +46,7 @@ one_run rule q e r h = subst (λ (p : ℕ). Step rule q e p) h.2 h.1
 pub live-there : (rule : Rule) (q : ℕ) (l : Live rule q) → Run rule q l.u l.accepting
 live-there rule q l = subst (λ (s : ℕ). Run rule s l.u l.accepting) l.begins l.there
 
-pub live_back : (rule : Rule) (q : ℕ) (es : List ℕ) (r : ℕ) → All (Event rule) es → Run rule q es r → Live rule r → Live rule q
+pub live_back : (rule : Rule) (q : ℕ) (es : List ℕ) (r : ℕ) → AllByRecursion (Event rule) es → Run rule q es r → Live rule r → Live rule q
 live_back rule q es r ok run l = record {
   u = es ++ l.u;
   v = l.v;
@@ -101,7 +101,7 @@ reaches_ending rule es (s, st, (q, run, l)) = record {
 }
 
 -- an ending of more events is one of fewer
-pub ending_back : (rule : Rule) (es more : List ℕ) → All (Event rule) more → Ending rule (es ++ more) → Ending rule es
+pub ending_back : (rule : Rule) (es more : List ℕ) → AllByRecursion (Event rule) more → Ending rule (es ++ more) → Ending rule es
 ending_back rule es more ok e = record {
   u = more ++ e.u;
   v = e.v;
@@ -116,7 +116,7 @@ ending_back rule es more ok e = record {
   round = e.round;
 }
 
-pub no_ending_more : (rule : Rule) (es more : List ℕ) → All (Event rule) more → NoEnding rule es → NoEnding rule (es ++ more)
+pub no_ending_more : (rule : Rule) (es more : List ℕ) → AllByRecursion (Event rule) more → NoEnding rule es → NoEnding rule (es ++ more)
 no_ending_more rule es more ok n e = n (ending_back rule es more ok e)
 
 -- ---- safe states
@@ -128,14 +128,14 @@ pub safe_below : (rule : Rule) (q : ℕ) → Safe rule q → q < 32
 safe_below rule q h = ∈_below 32 q h.0 h.1.small h.2
 
 -- from a member of a safe set every list of events has a run that stays in it
-pub safe_run : (rule : Rule) (set : ℕ) → SafeSet rule set → (es : List ℕ) → All (Event rule) es → (q : ℕ) → q ∈ set → (r : ℕ) × Run rule q es r × (r ∈ set)
+pub safe_run : (rule : Rule) (set : ℕ) → SafeSet rule set → (es : List ℕ) → AllByRecursion (Event rule) es → (q : ℕ) → q ∈ set → (r : ℕ) × Run rule q es r × (r ∈ set)
 safe_run rule set s [] ok q h = (q, refl, h)
 safe_run rule set s (e ∷ es) ok q h =
     let step = s.stays q e h ok.0 in
     let rest = safe_run rule set s es ok.1 step.0 step.2 in
     (rest.0, (step.0, step.1, rest.1), rest.2)
 
-pub safe_more : (rule : Rule) (es more : List ℕ) → All (Event rule) more → ReachesSafe rule es → ReachesSafe rule (es ++ more)
+pub safe_more : (rule : Rule) (es more : List ℕ) → AllByRecursion (Event rule) more → ReachesSafe rule es → ReachesSafe rule (es ++ more)
 safe_more rule es more ok (s, st, (q, run, safe)) =
     let on = safe_run rule safe.0 safe.1 more ok q safe.2 in
     (s, st, (on.0, run_++ rule s es more q on.0 run on.1, (safe.0, safe.1, on.2)))
@@ -144,7 +144,7 @@ pub safe_reaches_live : (rule : Rule) (es : List ℕ) → ReachesSafe rule es �
 safe_reaches_live rule es (s, st, (q, run, safe)) = (s, st, (q, run, safe_live rule q safe))
 
 -- once a safe state is reached, every list that begins so has an ending
-pub safe_ending : (rule : Rule) (es more : List ℕ) → All (Event rule) more → ReachesSafe rule es → Ending rule (es ++ more)
+pub safe_ending : (rule : Rule) (es more : List ℕ) → AllByRecursion (Event rule) more → ReachesSafe rule es → Ending rule (es ++ more)
 safe_ending rule es more ok h = reaches_ending rule (es ++ more) (safe_reaches_live rule (es ++ more) (safe_more rule es more ok h))
 
 -- ---- the release state

@@ -1,6 +1,6 @@
 -- Four small rules, and what a watch shows of each after any list of events, from the definitions alone.
 use Rattle.std.proofs.Common.{◌≡◌, ℕ, zero, suc, ◌<◌, Bool, true, false, not, T, ◌⊎◌, List, [], ◌∷◌, sym, refl, ◌∙◌, inl, inr, not-suc-le-zero, suc-ne-zero, arith, lit≤}
-use Rattle.std.specs.List.{AllByRecursion as All}
+use Rattle.std.specs.List.{AllByRecursion}
 use Rattle.rules.specs.declared.State.{State}
 use Rattle.rules.specs.declared.Move.{Move}
 use Rattle.rules.specs.declared.Verdict.TheVariants as verdict
@@ -70,7 +70,7 @@ clearing_safe = record { small = lit≤ tt; live = λ q h. live q (∈_below 2 q
     stays (suc zero) e l = (1, inr (inr (inl (refl, covers_all e, refl))), tt)
     stays (suc (suc q)) e l = absurd (let no_way : ⊥ = omega arith in no_way)
 
-pub clearing-shows : (es : List ℕ) → All (Event clearing) es → Shows clearing es (verdict.ClearSince 0)
+pub clearing-shows : (es : List ℕ) → AllByRecursion (Event clearing) es → Shows clearing es (verdict.ClearSince 0)
 unfolding has
 clearing-shows es ok = shows-clear clearing es 0 ok (record {
   within = omega arith;
@@ -107,7 +107,7 @@ staying_safe = record { small = lit≤ tt; live = λ q h. live q (∈_below 1 q 
     stays zero e l = (0, inl (refl, covers_all e, refl), tt)
     stays (suc q) e l = absurd (let no_way : ⊥ = omega arith in no_way)
 
-pub staying-shows : (es : List ℕ) → All (Event staying) es → Shows staying es (verdict.ClearSince 0)
+pub staying-shows : (es : List ℕ) → AllByRecursion (Event staying) es → Shows staying es (verdict.ClearSince 0)
 unfolding has
 staying-shows es ok = shows-clear staying es 0 ok (record {
   within = omega arith;
@@ -131,7 +131,7 @@ accepts_none (suc (suc zero)) h = h
 accepts_none (suc (suc (suc zero))) h = h
 accepts_none (suc (suc (suc (suc a)))) h = h
 
-pub hopeless-shows : (es : List ℕ) → All (Event hopeless) es → Shows hopeless es (verdict.BreachAt 0)
+pub hopeless-shows : (es : List ℕ) → AllByRecursion (Event hopeless) es → Shows hopeless es (verdict.BreachAt 0)
 hopeless-shows es ok = shows-breach hopeless es 0 ok (record { within = omega arith; holds = λ e. accepts_none e.accepting e.accepts; before = λ k l. absurd (not-suc-le-zero l) })
 
 -- ---- open for ever: both states start and accepting, moves (0,1,0), (0,1,1), (1,2,0), (1,2,1)
@@ -179,7 +179,7 @@ wavering_unsafe q (set, safe, h) = suc-ne-zero 0 (at_off (safe.stays q 0 h (lit�
     at_on (inr (inr (inr (inl (p, c, x))))) = absurd (c 0 (lit≤ tt))
     at_on (inr (inr (inr (inr none)))) = absurd none
 
-pub wavering-shows : (es : List ℕ) → All (Event wavering) es → Shows wavering es verdict.Open
+pub wavering-shows : (es : List ℕ) → AllByRecursion (Event wavering) es → Shows wavering es verdict.Open
 wavering-shows es ok = shows_open wavering es ok
     (λ n. let (s, l, (q, lq, run)) = wavering_run es in n (reaches_ending wavering es (s, two_states (Starts wavering) tt tt s l, (q, run, wavering-live q lq))))
     (λ (s, st, (q, run, safe)). wavering_unsafe q safe)

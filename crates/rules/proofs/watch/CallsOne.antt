@@ -1,6 +1,6 @@
 -- Over events that can come, a call's answer is determined, and so are the events taken and still to come after it.
 use Rattle.std.proofs.Common.{◌≡◌, ℕ, ◌^◌, ◌<◌, ◌≤◌, ◌⊎◌, List, [], ◌∷◌, ◌++◌, length, get_or, take, drop, sym, refl, ap, ◌∙◌, subst, ap₂, inl, inr, le_refl, lt_irrefl, suc-ne-zero, arith}
-use Rattle.std.specs.List.{AllByRecursion as All}
+use Rattle.std.specs.List.{AllByRecursion}
 use Rattle.std.proofs.lemmas.List.{get_or-take, length-take-le, take_all}
 use Rattle.std.proofs.lemmas.Bool.{cases_order, cases_lt}
 use Rattle.rules.specs.declared.Verdict.{Verdict}
@@ -55,21 +55,21 @@ shows_one rule es verdict.Open (verdict.BreachAt j) sv sw = (sv.breach j).1 ((sw
 shows_one rule es verdict.Open (verdict.ClearSince i) sv sw = (sv.clear i).1 ((sw.clear i).0 refl)
 shows_one rule es verdict.Open verdict.Open sv sw = refl
 
-pub tells_one : (rule : Rule) (trees : List Tree) (es : List ℕ) (v w : Verdict) → All (Event rule) es → Tells rule trees es v → Tells rule trees es w → v ≡ w
+pub tells_one : (rule : Rule) (trees : List Tree) (es : List ℕ) (v w : Verdict) → AllByRecursion (Event rule) es → Tells rule trees es v → Tells rule trees es w → v ≡ w
 tells_one rule trees es v w ok a b = shows_one rule es v w (a.shows ok) (b.shows ok)
 
 -- a breach stands or it does not
-pub apart : (rule : Rule) (trees : List Tree) (es : List ℕ) → All (Event rule) es → TellsBreach rule trees es → TellsNoBreach rule trees es → ⊥
+pub apart : (rule : Rule) (trees : List Tree) (es : List ℕ) → AllByRecursion (Event rule) es → TellsBreach rule trees es → TellsNoBreach rule trees es → ⊥
 apart rule trees es ok (v, t, b) (w, t', nb) = nb (subst IsBreach (tells_one rule trees es v w ok t t') b)
 
 -- ---- lists of events
 
 -- every number below 64 is an event that can come
-pub small-events : (rule : Rule) (xs : List ℕ) → All (λ e. e < 64) xs → All (Event rule) xs
+pub small-events : (rule : Rule) (xs : List ℕ) → AllByRecursion (λ e. e < 64) xs → AllByRecursion (Event rule) xs
 small-events rule xs h = h
 
 -- so where only such numbers come, what is told is what is to be shown
-pub tells_shows : (rule : Rule) (trees : List Tree) (es : List ℕ) (v : Verdict) → All (λ e. e < 64) es → Tells rule trees es v → Shows rule es v
+pub tells_shows : (rule : Rule) (trees : List Tree) (es : List ℕ) (v : Verdict) → AllByRecursion (λ e. e < 64) es → Tells rule trees es v → Shows rule es v
 tells_shows rule trees es v small tells = tells.shows (small-events rule es small)
 
 cons_head : (x y : ℕ) (xs ys : List ℕ) → x ∷ xs ≡ y ∷ ys → x ≡ y
@@ -89,7 +89,7 @@ Same a es coming b es' coming' = (a ≡ b) × (es ≡ es') × (coming ≡ coming
 full_apart : (es : List ℕ) → length es ≡ limit → length es < limit → ⊥
 full_apart es p l = lt_irrefl limit (subst (λ (n : ℕ). n < limit) p l)
 
-pub taking_one : (rule : Rule) (trees : List Tree) (es coming : List ℕ) (a b : Answer) (es' es'' coming' coming'' : List ℕ) → All (Event rule) es → All (Event rule) coming
+pub taking_one : (rule : Rule) (trees : List Tree) (es coming : List ℕ) (a b : Answer) (es' es'' coming' coming'' : List ℕ) → AllByRecursion (Event rule) es → AllByRecursion (Event rule) coming
     → Taking rule trees es coming a es' coming' → Taking rule trees es coming b es'' coming'' → Same a es' coming' b es'' coming''
 taking_one rule trees es coming a b es' es'' coming' coming'' ok okc (C.Taking.breached x) (C.Taking.breached y) = (refl, refl, refl)
 taking_one rule trees es coming a b es' es'' coming' coming'' ok okc (C.Taking.breached x) (C.Taking.full y l) = absurd (apart rule trees es ok x y)
@@ -108,7 +108,7 @@ taking_one rule trees es coming a b es' es'' coming' coming'' ok okc (C.Taking.t
 taking_one rule trees es coming a b es' es'' coming' coming'' ok okc (C.Taking.taken e t v ls x k d s p) (C.Taking.nothing_waits y l c) = absurd (nil_cons e t (sym c ∙ d))
 taking_one rule trees es coming a b es' es'' coming' coming'' ok okc (C.Taking.taken e t v ls x k d s p) (C.Taking.taken e' t' v' ls' y l c s' p') =
     let events : e ≡ e' = cons_head e e' t t' (sym d ∙ c) in
-    let all = all_++ (Event rule) es (e ∷ []) ok ((subst (All (Event rule)) d okc).0, tt) in
+    let all = all_++ (Event rule) es (e ∷ []) ok ((subst (AllByRecursion (Event rule)) d okc).0, tt) in
     let verdicts = tells_one rule trees (es ++ e ∷ []) v v' all s (subst (λ (n : ℕ). Tells rule trees (es ++ n ∷ []) v') (sym events) s') in
     let lines = polled_one rule trees es e ls ls' p (subst (λ (n : ℕ). Polled rule trees es n ls') (sym events) p') in
     (ap₂ (λ (y : Verdict) (n : ℕ). answer.Taken y n) verdicts lines, ap (λ (n : ℕ). es ++ n ∷ []) events, cons_tail e e' t t' (sym d ∙ c))
@@ -116,14 +116,14 @@ taking_one rule trees es coming a b es' es'' coming' coming'' ok okc (C.Taking.t
 -- ---- rehearse
 
 -- an event among the first k is small, so it is not one above 63
-small_apart : (tried : List ℕ) (k i : ℕ) → k ≤ length tried → i < k → All (λ e. e < 64) (take k tried) → 63 < get_or tried i 0 → ⊥
+small_apart : (tried : List ℕ) (k i : ℕ) → k ≤ length tried → i < k → AllByRecursion (λ e. e < 64) (take k tried) → 63 < get_or tried i 0 → ⊥
 small_apart tried k i w l ok above =
     let small : get_or (take k tried) i 0 < 64 = all_at (λ e. e < 64) (take k tried) i 0 (subst (λ (x : ℕ). i < x) (sym (length-take-le k tried w)) l) ok in
     let at = get_or-take k tried i 0 l in
     let no_way : ⊥ = omega (arith, small, at, above) in no_way
 
-module _ (rule : Rule) (trees : List Tree) (es tried : List ℕ) (ok : All (Event rule) es) where
-  tried_apart : (k : ℕ) → All (λ e. e < 64) (take k tried) → TellsBreach rule trees (es ++ take k tried) → TellsNoBreach rule trees (es ++ take k tried) → ⊥
+module _ (rule : Rule) (trees : List Tree) (es tried : List ℕ) (ok : AllByRecursion (Event rule) es) where
+  tried_apart : (k : ℕ) → AllByRecursion (λ e. e < 64) (take k tried) → TellsBreach rule trees (es ++ take k tried) → TellsNoBreach rule trees (es ++ take k tried) → ⊥
   tried_apart k small = apart rule trees (es ++ take k tried) (all_++ (Event rule) es (take k tried) ok (small-events rule (take k tried) small))
 
   all_tried : take (length tried) tried ≡ tried
@@ -191,14 +191,14 @@ module _ (rule : Rule) (trees : List Tree) (es tried : List ℕ) (ok : All (Even
   rehearsing_one coming a b es' es'' coming' coming'' (C.Rehearsing.finished v x t h s) (C.Rehearsing.not_an_event i y t' h' l m) = absurd (event_finished i l m t)
   rehearsing_one coming a b es' es'' coming' coming'' (C.Rehearsing.finished v x t h s) (C.Rehearsing.finished w y t' h' s') = (
     ap (λ (u : Verdict). answer.Tried (word_of u) (length tried))
-        (tells_one rule trees (es ++ tried) v w (all_++ (Event rule) es tried ok (small-events rule tried (subst (All (λ e. e < 64)) all_tried t.events))) s s'),
+        (tells_one rule trees (es ++ tried) v w (all_++ (Event rule) es tried ok (small-events rule tried (subst (AllByRecursion (λ e. e < 64)) all_tried t.events))) s s'),
     refl,
     refl,
   )
 
 -- ---- any call
 
-pub calls_one : (rule : Rule) (trees : List Tree) (c : Call) (es coming : List ℕ) (a b : Answer) (es' es'' coming' coming'' : List ℕ) → All (Event rule) es → All (Event rule) coming
+pub calls_one : (rule : Rule) (trees : List Tree) (c : Call) (es coming : List ℕ) (a b : Answer) (es' es'' coming' coming'' : List ℕ) → AllByRecursion (Event rule) es → AllByRecursion (Event rule) coming
     → Calls rule trees c es coming a es' coming' → Calls rule trees c es coming b es'' coming'' → Same a es' coming' b es'' coming''
 calls_one rule trees call.Take es coming a b es' es'' coming' coming'' ok okc x y = taking_one rule trees es coming a b es' es'' coming' coming'' ok okc x y
 calls_one rule trees call.Look es coming a b es' es'' coming' coming'' ok okc (C.Looking.shown v s) (C.Looking.shown w s') =
@@ -207,13 +207,13 @@ calls_one rule trees (call.Rehearse tried) es coming a b es' es'' coming' coming
 calls_one rule trees call.Rearm es coming a b es' es'' coming' coming'' ok okc C.Rearming.armed C.Rearming.armed = (refl, refl, refl)
 
 -- after a call there are still only events that can come
-pub calls_events : (rule : Rule) (trees : List Tree) (c : Call) (es coming : List ℕ) (a : Answer) (es' coming' : List ℕ) → All (Event rule) es → All (Event rule) coming
-    → Calls rule trees c es coming a es' coming' → All (Event rule) es' × All (Event rule) coming'
+pub calls_events : (rule : Rule) (trees : List Tree) (c : Call) (es coming : List ℕ) (a : Answer) (es' coming' : List ℕ) → AllByRecursion (Event rule) es → AllByRecursion (Event rule) coming
+    → Calls rule trees c es coming a es' coming' → AllByRecursion (Event rule) es' × AllByRecursion (Event rule) coming'
 calls_events rule trees call.Take es coming a es' coming' ok okc (C.Taking.breached x) = (ok, okc)
 calls_events rule trees call.Take es coming a es' coming' ok okc (C.Taking.full x k) = (ok, okc)
 calls_events rule trees call.Take es coming a es' coming' ok okc (C.Taking.nothing_waits x k d) = (ok, okc)
 calls_events rule trees call.Take es coming a es' coming' ok okc (C.Taking.taken e t v ls x k d s p) =
-    let both = subst (All (Event rule)) d okc in (all_++ (Event rule) es (e ∷ []) ok (both.0, tt), both.1)
+    let both = subst (AllByRecursion (Event rule)) d okc in (all_++ (Event rule) es (e ∷ []) ok (both.0, tt), both.1)
 calls_events rule trees call.Look es coming a es' coming' ok okc (C.Looking.shown v s) = (ok, okc)
 calls_events rule trees (call.Rehearse tried) es coming a es' coming' ok okc (C.Rehearsing.breached x) = (ok, okc)
 calls_events rule trees (call.Rehearse tried) es coming a es' coming' ok okc (C.Rehearsing.breach_found k x t h) = (ok, okc)
@@ -223,13 +223,13 @@ calls_events rule trees call.Rearm es coming a es' coming' ok okc C.Rearming.arm
 
 -- ---- any list of calls
 
-pub calls_all_events : (rule : Rule) (trees : List Tree) (calls : List Call) (es coming : List ℕ) (answers : List Answer) (es' coming' : List ℕ) → All (Event rule) es → All (Event rule) coming
-    → CallsAll rule trees calls es coming answers es' coming' → All (Event rule) es' × All (Event rule) coming'
+pub calls_all_events : (rule : Rule) (trees : List Tree) (calls : List Call) (es coming : List ℕ) (answers : List Answer) (es' coming' : List ℕ) → AllByRecursion (Event rule) es → AllByRecursion (Event rule) coming
+    → CallsAll rule trees calls es coming answers es' coming' → AllByRecursion (Event rule) es' × AllByRecursion (Event rule) coming'
 calls_all_events rule trees [] es coming answers es' coming' ok okc C.CallsAll.no_more = (ok, okc)
 calls_all_events rule trees (c ∷ calls) es coming answers es' coming' ok okc (C.CallsAll.one_more {a = a} {answers = rest} {es₁ = e₁} {coming₁ = c₁} x xs) =
     let (ok', okc') = calls_events rule trees c es coming a e₁ c₁ ok okc x in calls_all_events rule trees calls e₁ c₁ rest es' coming' ok' okc' xs
 
-pub calls_all_one : (rule : Rule) (trees : List Tree) (calls : List Call) (es coming : List ℕ) (as₁ as₂ : List Answer) (es' es'' coming' coming'' : List ℕ) → All (Event rule) es → All (Event rule) coming
+pub calls_all_one : (rule : Rule) (trees : List Tree) (calls : List Call) (es coming : List ℕ) (as₁ as₂ : List Answer) (es' es'' coming' coming'' : List ℕ) → AllByRecursion (Event rule) es → AllByRecursion (Event rule) coming
     → CallsAll rule trees calls es coming as₁ es' coming' → CallsAll rule trees calls es coming as₂ es'' coming'' → (as₁ ≡ as₂) × (es' ≡ es'') × (coming' ≡ coming'')
 calls_all_one rule trees [] es coming as₁ as₂ es' es'' coming' coming'' ok okc C.CallsAll.no_more C.CallsAll.no_more = (refl, refl, refl)
 calls_all_one rule trees (c ∷ calls) es coming as₁ as₂ es' es'' coming' coming'' ok okc

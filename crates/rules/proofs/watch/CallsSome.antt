@@ -1,6 +1,6 @@
 -- Every call has an answer, whatever events come, where safety is decided, the trees serve their states and the start set is at hand.
 use Rattle.std.proofs.Common.{◌≡◌, ℕ, zero, suc, ◌+◌, ◌^◌, ◌<◌, ◌≤◌, ◌⊎◌, List, [], ◌∷◌, ◌++◌, length, get_or, refl, subst, inl, inr, le_antisymm, arith}
-use Rattle.std.specs.List.{AllByRecursion as All}
+use Rattle.std.specs.List.{AllByRecursion}
 use Rattle.std.proofs.lemmas.List.{length-append}
 use Rattle.std.proofs.lemmas.Bool.{cases_eq, cases_lt}
 use Rattle.rules.specs.declared.Verdict.{Verdict}
@@ -89,11 +89,11 @@ module _ (rule : Rule) (trees : List Tree) (sound : Sound rule trees) (raw : ℕ
   pub held_some : (es : List ℕ) → (set : ℕ) × Held rule trees es set
   held_some es = let (set, (w, h)) = watches-some es in (set, watches_held rule trees es set w h)
 
-  pub shows-some : (es : List ℕ) → All (Event rule) es → (v : Verdict) × Shows rule es v
+  pub shows-some : (es : List ℕ) → AllByRecursion (Event rule) es → (v : Verdict) × Shows rule es v
   shows-some es ok = let (v, tells) = tells_some es in (v, tells.shows ok)
 
   -- whether the events have an ending is decided
-  pub ending_decided : (es : List ℕ) → All (Event rule) es → Ending rule es ⊎ NoEnding rule es
+  pub ending_decided : (es : List ℕ) → AllByRecursion (Event rule) es → Ending rule es ⊎ NoEnding rule es
   ending_decided es ok = let (set, held) = held_some es in which set (held_tracks rule trees sound.decided sound.serves es set ok held)
     where
       which : (set : ℕ) → Tracks rule es set → Ending rule es ⊎ NoEnding rule es

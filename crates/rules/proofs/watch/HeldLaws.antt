@@ -1,7 +1,7 @@
 -- What the held set says: empty just when there is no ending, and the release state alone just when a safe state can have been reached.
 use Rattle.std.proofs.Common.{◌≡◌, ℕ, ◌^◌, ◌<◌, ◌⊎◌, ◌↔◌, List, [], ◌∷◌, ◌++◌, sym, refl, ◌∙◌, subst, inl, inr, append_assoc, append-nil}
 use Rattle.std.proofs.lemmas.Nat.{pow_below}
-use Rattle.std.specs.List.{AllByRecursion as All}
+use Rattle.std.specs.List.{AllByRecursion}
 use Rattle.events.specs.Sets.{◌∈◌}
 use Rattle.rules.specs.automata.Rules.{Rule, Event}
 use Rattle.rules.specs.automata.Runs.{Step, Ending, Live, Safe, Reaches, ReachesSafe, NoEnding}
@@ -158,7 +158,7 @@ tracks_step rule trees es held e next dec serves ok tracks settled = go tracks.w
 -- ---- any list of events
 
 pub tracks_from : (rule : Rule) (trees : List Tree) → SafeDecided rule → AllServe rule trees → (es : List ℕ) (done : List ℕ) (held set : ℕ)
-    → All (Event rule) es → Tracks rule done held → HeldFrom rule trees held es set → Tracks rule (done ++ es) set
+    → AllByRecursion (Event rule) es → Tracks rule done held → HeldFrom rule trees held es set → Tracks rule (done ++ es) set
 tracks_from rule trees dec serves [] done held set ok tracks h =
     subst (λ (l : List ℕ). Tracks rule l set) (sym (append-nil done)) (subst (Tracks rule done) h tracks)
 tracks_from rule trees dec serves (e ∷ es) done held set ok tracks (next, settled, h) =
@@ -166,7 +166,7 @@ tracks_from rule trees dec serves (e ∷ es) done held set ok tracks (next, sett
     (tracks_from rule trees dec serves es (done ++ e ∷ []) next set ok.1 (tracks_step rule trees done held e next dec serves ok.0 tracks settled) h)
 
 pub held_tracks : (rule : Rule) (trees : List Tree) → SafeDecided rule → AllServe rule trees → (es : List ℕ) (set : ℕ)
-    → All (Event rule) es → Held rule trees es set → Tracks rule es set
+    → AllByRecursion (Event rule) es → Held rule trees es set → Tracks rule es set
 held_tracks rule trees dec serves es set ok (raw, start, (first, settled, h)) =
     tracks_from rule trees dec serves es [] first set ok (tracks_start rule raw first dec start settled) h
 

@@ -1,7 +1,7 @@
 -- From local facts to the whole promise: what a watch keeps when it is armed and when it takes an event, and from that what each call answers.
 use Rattle.std.proofs.Common.{◌≡◌, ℕ, suc, ◌+◌, ◌^◌, ◌<◌, ◌≤◌, ◌⊎◌, List, [], ◌∷◌, ◌++◌, length, get_or, take, sym, refl, ap, ◌∙◌, subst, inl, inr, append_assoc, append-nil, le_refl, not-suc-le-zero, arith}
 use lib.Bits.{bit_and}
-use Rattle.std.specs.List.{AllByRecursion as All}
+use Rattle.std.specs.List.{AllByRecursion}
 use Rattle.std.proofs.lemmas.List.{take_more, take_all, length-append, length-take-le}
 use Rattle.std.proofs.lemmas.Bool.{cases_eq, cases_lt}
 use Rattle.rules.specs.declared.Verdict.{Verdict}
@@ -49,7 +49,7 @@ fitted_release price rule trees costs well fit r e rel =
     release_polls rule r best.wants best.line (tree_of trees r) rel best.wanted best.tree e
 
 pub clear_polls_nothing : (price : Price) (rule : Rule) (trees : List Tree) (costs : List ℕ) → WellFormed rule → SafeDecided rule → FittedAll price rule trees costs
-    → (es : List ℕ) (held i e : ℕ) → All (Event rule) es → Watches rule trees es held (verdict.ClearSince i) → polls_of trees held e ≡ 0
+    → (es : List ℕ) (held i e : ℕ) → AllByRecursion (Event rule) es → Watches rule trees es held (verdict.ClearSince i) → polls_of trees held e ≡ 0
 clear_polls_nothing price rule trees costs well decided fit es held i e ok watches =
     let sound = fitted_sound price rule trees costs well decided fit in
     let (tracks, shows) = watch_shows rule trees decided sound.serves es held (verdict.ClearSince i) ok watches in
@@ -181,7 +181,7 @@ module _ (rule : Rule) (trees : List Tree) (sound : Sound rule trees) where
       began = so_far.began;
       before = record {
         within = omega arith;
-        events = subst (All (λ e. e < 64)) (sym longer) (all_++ (λ e. e < 64) (take k tried) (get_or tried k 0 ∷ []) so_far.before.events (small, tt));
+        events = subst (AllByRecursion (λ e. e < 64)) (sym longer) (all_++ (λ e. e < 64) (take k tried) (get_or tried k 0 ∷ []) so_far.before.events (small, tt));
         lasts = λ j l. at j l (cases_eq j k);
       };
       watches = subst (λ (l : List ℕ). Watches rule trees l next w) (append_assoc es (take k tried) (get_or tried k 0 ∷ []) ∙ ap (λ (l : List ℕ). es ++ l) (sym longer))

@@ -2,7 +2,7 @@
 use Rattle.std.proofs.Common.{◌≡◌, ℕ, zero, suc, ◌<◌, ◌≤◌, ◌⊎◌, ◌↔◌, List, [], ◌∷◌, ◌++◌, length, take, drop, sym, refl, ap, subst, inl, inr, append_assoc, append-nil, le_refl, not-suc-le-zero, arith, take-append-drop}
 use Rattle.std.proofs.lemmas.List.{take-append-le, take_all, length-append}
 use Rattle.std.proofs.lemmas.Bool.{cases_order}
-use Rattle.std.specs.List.{AllByRecursion as All}
+use Rattle.std.specs.List.{AllByRecursion}
 use Rattle.rules.specs.declared.Verdict.{Verdict}
 use Rattle.rules.specs.declared.Verdict.TheVariants as verdict
 use Rattle.events.specs.Sets.{◌∈◌}
@@ -42,20 +42,20 @@ no_first P es none h = upto (suc (length es)) (length es) (le_refl (suc (length 
 
 -- ---- counts of events kept
 
-pub all_take : {A : Type 0} (P : A → Type 0) (k : ℕ) (xs : List A) → All P xs → All P (take k xs)
-all_take P k xs h = all_left P (take k xs) (drop k xs) (subst (All P) (sym (take-append-drop k xs)) h)
+pub all_take : {A : Type 0} (P : A → Type 0) (k : ℕ) (xs : List A) → AllByRecursion P xs → AllByRecursion P (take k xs)
+all_take P k xs h = all_left P (take k xs) (drop k xs) (subst (AllByRecursion P) (sym (take-append-drop k xs)) h)
 
-pub all_drop : {A : Type 0} (P : A → Type 0) (k : ℕ) (xs : List A) → All P xs → All P (drop k xs)
-all_drop P k xs h = all_right P (take k xs) (drop k xs) (subst (All P) (sym (take-append-drop k xs)) h)
+pub all_drop : {A : Type 0} (P : A → Type 0) (k : ℕ) (xs : List A) → AllByRecursion P xs → AllByRecursion P (drop k xs)
+all_drop P k xs h = all_right P (take k xs) (drop k xs) (subst (AllByRecursion P) (sym (take-append-drop k xs)) h)
 
-pub no_ending_later : (rule : Rule) (k : ℕ) (es : List ℕ) → All (Event rule) es → NoEnding rule (take k es) → NoEnding rule es
+pub no_ending_later : (rule : Rule) (k : ℕ) (es : List ℕ) → AllByRecursion (Event rule) es → NoEnding rule (take k es) → NoEnding rule es
 no_ending_later rule k es ok n = subst (NoEnding rule) (take-append-drop k es) (no_ending_more rule (take k es) (drop k es) (all_drop (Event rule) k es ok) n)
 
-pub safe_later : (rule : Rule) (k : ℕ) (es : List ℕ) → All (Event rule) es → ReachesSafe rule (take k es) → ReachesSafe rule es
+pub safe_later : (rule : Rule) (k : ℕ) (es : List ℕ) → AllByRecursion (Event rule) es → ReachesSafe rule (take k es) → ReachesSafe rule es
 safe_later rule k es ok h = subst (ReachesSafe rule) (take-append-drop k es) (safe_more rule (take k es) (drop k es) (all_drop (Event rule) k es ok) h)
 
 -- a safe state reached after the first k events leaves an ending at all of them
-pub safe_now : (rule : Rule) (k : ℕ) (es : List ℕ) → All (Event rule) es → ReachesSafe rule (take k es) → Ending rule es
+pub safe_now : (rule : Rule) (k : ℕ) (es : List ℕ) → AllByRecursion (Event rule) es → ReachesSafe rule (take k es) → Ending rule es
 safe_now rule k es ok h = subst (Ending rule) (take-append-drop k es) (safe_ending rule (take k es) (drop k es) (all_drop (Event rule) k es ok) h)
 
 -- ---- the three verdicts
@@ -77,21 +77,21 @@ is_breach v j e = subst (λ (w : Verdict). BreachIs w j) (sym e) refl
 pub is_clear : (v : Verdict) (i : ℕ) → v ≡ verdict.ClearSince i → ClearIs v i
 is_clear v i e = subst (λ (w : Verdict). ClearIs w i) (sym e) refl
 
-pub shows_open : (rule : Rule) (es : List ℕ) → All (Event rule) es → (NoEnding rule es → ⊥) → (ReachesSafe rule es → ⊥) → Shows rule es verdict.Open
+pub shows_open : (rule : Rule) (es : List ℕ) → AllByRecursion (Event rule) es → (NoEnding rule es → ⊥) → (ReachesSafe rule es → ⊥) → Shows rule es verdict.Open
 shows_open rule es ok lasts unsafe = record {
   breach = λ j. ((λ e. absurd (is_breach verdict.Open j e)), (λ f. absurd (lasts (no_ending_later rule j es ok f.holds))));
   clear = λ i. ((λ e. absurd (is_clear verdict.Open i e)), (λ f. absurd (unsafe (safe_later rule i es ok f.holds))));
   kept = λ i e. absurd (is_clear verdict.Open i e);
 }
 
-pub shows-breach : (rule : Rule) (es : List ℕ) (j : ℕ) → All (Event rule) es → First (NoEnding rule) es j → Shows rule es (verdict.BreachAt j)
+pub shows-breach : (rule : Rule) (es : List ℕ) (j : ℕ) → AllByRecursion (Event rule) es → First (NoEnding rule) es j → Shows rule es (verdict.BreachAt j)
 shows-breach rule es j ok first = record {
   breach = λ k. ((λ e. subst (First (NoEnding rule) es) (is_breach (verdict.BreachAt j) k e) first), (λ f. ap verdict.BreachAt (first_one (NoEnding rule) es j k first f)));
   clear = λ i. ((λ e. absurd (is_clear (verdict.BreachAt j) i e)), (λ f. absurd (no_ending_later rule j es ok first.holds (safe_now rule i es ok f.holds))));
   kept = λ i e. absurd (is_clear (verdict.BreachAt j) i e);
 }
 
-pub shows-clear : (rule : Rule) (es : List ℕ) (i : ℕ) → All (Event rule) es → First (ReachesSafe rule) es i → Shows rule es (verdict.ClearSince i)
+pub shows-clear : (rule : Rule) (es : List ℕ) (i : ℕ) → AllByRecursion (Event rule) es → First (ReachesSafe rule) es i → Shows rule es (verdict.ClearSince i)
 shows-clear rule es i ok first = record {
   breach = λ j. ((λ e. absurd (is_breach (verdict.ClearSince i) j e)), (λ f. absurd (no_ending_later rule j es ok f.holds (safe_now rule i es ok first.holds))));
   clear = λ k. ((λ e. subst (First (ReachesSafe rule) es) (is_clear (verdict.ClearSince i) k e) first), (λ f. ap verdict.ClearSince (first_one (ReachesSafe rule) es i k first f)));
@@ -107,7 +107,7 @@ open_unsafe rule es shows = no_first (ReachesSafe rule) es (λ j f. is_clear ver
 -- ---- the verdict read from a held set, and the verdict after one event more
 
 -- a verdict read at the end of the events, where nothing was found before
-reads_shows : (rule : Rule) (es : List ℕ) (set : ℕ) (w : Verdict) → SafeDecided rule → All (Event rule) es → Tracks rule es set
+reads_shows : (rule : Rule) (es : List ℕ) (set : ℕ) (w : Verdict) → SafeDecided rule → AllByRecursion (Event rule) es → Tracks rule es set
     → ((k : ℕ) → k < length es → NoEnding rule (take k es) → ⊥) → ((k : ℕ) → k < length es → ReachesSafe rule (take k es) → ⊥)
     → Reads rule (length es) set w → Shows rule es w
 reads_shows rule es set w dec ok tracks lasted unsafe (inl (z, e)) = subst (Shows rule es) (sym e) (shows-breach rule es (length es) ok (record {
@@ -127,7 +127,7 @@ reads_shows rule es set w dec ok tracks lasted unsafe (inr (inr (nz, none, e))) 
 pub shows-start : (rule : Rule) (set : ℕ) (v : Verdict) → SafeDecided rule → Tracks rule [] set → Reads rule 0 set v → Shows rule [] v
 shows-start rule set v dec tracks reads = reads_shows rule [] set v dec tt tracks (λ k l. absurd (not-suc-le-zero l)) (λ k l. absurd (not-suc-le-zero l)) reads
 
-pub shows_step : (rule : Rule) (es : List ℕ) (e set : ℕ) (v w : Verdict) → SafeDecided rule → All (Event rule) es → Event rule e
+pub shows_step : (rule : Rule) (es : List ℕ) (e set : ℕ) (v w : Verdict) → SafeDecided rule → AllByRecursion (Event rule) es → Event rule e
     → Shows rule es v → Tracks rule (es ++ e ∷ []) set → Next rule (suc (length es)) set v w → Shows rule (es ++ e ∷ []) w
 shows_step rule es e set verdict.Open w dec ok ok-e shows tracks reads =
     reads_shows rule (es ++ e ∷ []) set w dec all tracks
@@ -135,7 +135,7 @@ shows_step rule es e set verdict.Open w dec ok ok-e shows tracks reads =
     (λ k l h. open_unsafe rule es shows (safe_later rule k es ok (subst (ReachesSafe rule) (early k l) h)))
     (subst (λ (n : ℕ). Reads rule n set w) count reads)
   where
-    all : All (Event rule) (es ++ e ∷ [])
+    all : AllByRecursion (Event rule) (es ++ e ∷ [])
     all = all_++ (Event rule) es (e ∷ []) ok (ok-e, tt)
 
     count : suc (length es) ≡ length (es ++ e ∷ [])
@@ -151,7 +151,7 @@ shows_step rule es e set (verdict.ClearSince i) w dec ok ok-e shows tracks same 
 -- ---- any list of events
 
 watch_from : (rule : Rule) (trees : List Tree) → SafeDecided rule → AllServe rule trees → (es done : List ℕ) (held set : ℕ) (v w : Verdict)
-    → All (Event rule) es → All (Event rule) done → Tracks rule done held → Shows rule done v → WatchesFrom rule trees (length done) held v es set w
+    → AllByRecursion (Event rule) es → AllByRecursion (Event rule) done → Tracks rule done held → Shows rule done v → WatchesFrom rule trees (length done) held v es set w
     → Tracks rule (done ++ es) set × Shows rule (done ++ es) w
 watch_from rule trees dec serves [] done held set v w ok ok-done tracks shows (p, q) = (
   subst (λ (l : List ℕ). Tracks rule l set) (sym (append-nil done)) (subst (Tracks rule done) p tracks),
@@ -168,7 +168,7 @@ watch_from rule trees dec serves (e ∷ es) done held set v w ok ok-done tracks 
     count = omega (arith, length-append done (e ∷ []))
 
 pub watch_shows : (rule : Rule) (trees : List Tree) → SafeDecided rule → AllServe rule trees → (es : List ℕ) (set : ℕ) (w : Verdict)
-    → All (Event rule) es → Watches rule trees es set w → Tracks rule es set × Shows rule es w
+    → AllByRecursion (Event rule) es → Watches rule trees es set w → Tracks rule es set × Shows rule es w
 watch_shows rule trees dec serves es set w ok (raw, start, (first, settled, (v, reads, rest))) =
     let tracks = tracks_start rule raw first dec start settled in
     watch_from rule trees dec serves es [] first set v w ok tt tracks (shows-start rule first v dec tracks reads) rest
@@ -183,7 +183,7 @@ watches_held rule trees es set w (raw, start, (first, settled, (v, reads, rest))
 -- ---- the theorem in one piece
 
 pub set_says : (rule : Rule) → SafeDecided rule → (trees : List Tree) → AllServe rule trees
-    → (es : List ℕ) → All (Event rule) es → (set : ℕ) → Held rule trees es set → SetSays rule es set
+    → (es : List ℕ) → AllByRecursion (Event rule) es → (set : ℕ) → Held rule trees es set → SetSays rule es set
 set_says rule decided trees serves es ok set held = record {
   empty = empty_no_ending rule es set tracks;
   released = λ r rel. (
@@ -210,11 +210,11 @@ pub not_breach : (rule : Rule) (es : List ℕ) (v : Verdict) → Shows rule es v
 not_breach rule es v shows nb = no_first (NoEnding rule) es (λ j f. nb (j, (shows.breach j).1 f))
 
 -- a breach stands just when some of the first events have no ending
-pub breach-stands : (rule : Rule) (trees : List Tree) (es : List ℕ) → All (Event rule) es → TellsBreach rule trees es ↔ ((j : ℕ) × First (NoEnding rule) es j)
+pub breach-stands : (rule : Rule) (trees : List Tree) (es : List ℕ) → AllByRecursion (Event rule) es → TellsBreach rule trees es ↔ ((j : ℕ) × First (NoEnding rule) es j)
 breach-stands rule trees es ok = (
   (λ (v, tells, (j, e)). (j, ((tells.shows ok).breach j).0 e)),
   (λ (j, first). (verdict.BreachAt j, record { shows = λ ok'. shows-breach rule es j ok' first }, (j, refl))),
 )
 
-pub no_breach_stands : (rule : Rule) (trees : List Tree) (es : List ℕ) → All (Event rule) es → TellsNoBreach rule trees es → NoEnding rule es → ⊥
+pub no_breach_stands : (rule : Rule) (trees : List Tree) (es : List ℕ) → AllByRecursion (Event rule) es → TellsNoBreach rule trees es → NoEnding rule es → ⊥
 no_breach_stands rule trees es ok (v, tells, nb) = not_breach rule es v (tells.shows ok) nb

@@ -1,6 +1,6 @@
 -- Runs of a rule, endings, and live and safe states.
 use Rattle.std.specs.Prelude.{◌≡◌, ℕ, ◌^◌, ◌<◌, List, [], ◌∷◌, ◌++◌}
-use Rattle.std.specs.List.{AllByRecursion as All}
+use Rattle.std.specs.List.{AllByRecursion}
 use Rattle.events.specs.Sets.{◌∈◌}
 use Rattle.events.specs.Cells.{Covers}
 use Rattle.rules.specs.automata.Rules.{Rule, Any, Starts, Accepts, Event}
@@ -24,8 +24,8 @@ NotEmpty (x ∷ xs) = Unit {0}
 pub record EndingFrom (rule : Rule) (Begins : ℕ → Type 0) (es : List ℕ) : Type 0 where
   pub u : List ℕ
   pub v : List ℕ
-  pub u-events : All (Event rule) u
-  pub v-events : All (Event rule) v
+  pub u-events : AllByRecursion (Event rule) u
+  pub v-events : AllByRecursion (Event rule) v
   pub v_turns : NotEmpty v
   pub start : ℕ
   pub accepting : ℕ

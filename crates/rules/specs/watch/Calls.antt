@@ -1,7 +1,7 @@
 -- What the calls of a watch answer, from the events `es` taken since it was last armed and the events `coming` that the source has still to come,
 -- and what these two lists are after the call.
 use Rattle.std.specs.Prelude.{◌≡◌, ℕ, ◌<◌, ◌≤◌, List, [], ◌∷◌, ◌++◌, length, take, Some, None, Option, slice_index}
-use Rattle.std.specs.List.{AllByRecursion as All}
+use Rattle.std.specs.List.{AllByRecursion}
 use Rattle.rules.specs.declared.Verdict.{Verdict}
 use Rattle.rules.specs.declared.Word.TheVariants as word
 use Rattle.rules.specs.declared.Call.{Call}
@@ -54,7 +54,7 @@ pub data Looking (rule : Rule) (trees : List Tree) (es coming : List ℕ) : Answ
 -- the first k of the events tried are numbers below 64, and no breach stands after fewer than k of them
 pub record TriedBefore (rule : Rule) (trees : List Tree) (es tried : List ℕ) (k : ℕ) : Type 0 where
   pub within : k ≤ length tried
-  pub events : All (λ e. e < 64) (take k tried)
+  pub events : AllByRecursion (λ e. e < 64) (take k tried)
   pub lasts : (j : ℕ) → j < k → TellsNoBreach rule trees (es ++ take j tried)
 
 -- refused by a breach; otherwise the events are tried in order, up to the first that gives a breach, or the first number above 63, or the end of the list

@@ -1,6 +1,6 @@
 -- The state's pruned sets are fitted, which is what fitting promises of a state of the rule.
 use Rattle.std.proofs.Common.{List, sym, subst}
-use Rattle.std.specs.List.{AllByRecursion as All}
+use Rattle.std.specs.List.{AllByRecursion}
 use Rattle.rules.specs.declared.Line.{Line}
 use Rattle.rules.specs.automata.Rules.{LineInRange}
 use Rattle.pruning.specs.Drafts.{rule_of}
@@ -11,7 +11,7 @@ use Rattle.fitting.proofs.fit.fit_next.Goals as goal
 
 pub fit_state-requires : goal.fit_state-requires
 fit_state-requires g c = record {
-  lines = subst (All LineInRange) (sym c.requires.lines) c.requires.well.lines_fit;
+  lines = subst (AllByRecursion LineInRange) (sym c.requires.lines) c.requires.well.lines_fit;
   room = c.requires.room;
   low = c.requires.low;
 }
