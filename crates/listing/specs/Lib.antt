@@ -1,3 +1,4 @@
 -- What contracts cite: the program's output, byte by byte.
 pub mod Text
 pub mod Output
+pub mod Prints

@@ -1,6 +1,7 @@
 // The worked cases, as tests: numbers, cells, the worked rule whole and damaged, the lent lists and the making, and what the program prints.
 #![tactic(auto)]
 
+pub mod cases;
 #[cfg(test)]
 mod small;
 #[cfg(test)]

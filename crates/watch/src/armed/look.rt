@@ -19,7 +19,7 @@ fn shown(state: Snapshot) -> Shown
     }
 }
 
-impl Watch<'_, '_, '_> {
+impl Watch<'_, '_> {
     // The verdict and the count.
     pub fn look(&self) -> Shown
         ensures shown { (coming : List ℕ) → CalledOn self.now.plan.now call.Look self.now.state coming (look_answer result) self.now.state coming }

@@ -1,5 +1,5 @@
 -- What a watch keeps, computed from the release state as a set, is what the definitions say; and it holds live states alone.
-use Rattle.std.proofs.Common.{◌≡◌, ℕ, ◌+◌, ◌^◌, ◌<◌, Bool, true, false, cond, T, eqb, ◌⊎◌, List, length, sym, refl, ap, ◌∙◌, subst, inl, inr}
+use Rattle.std.proofs.Common.{◌≡◌, ℕ, ◌^◌, ◌<◌, Bool, true, false, cond, eqb, ◌⊎◌, List, length, sym, refl, subst, inl, inr}
 use lib.Bits.{bit_and}
 use Rattle.std.proofs.lemmas.Bool.{eqb-true, eqb-false}
 use Rattle.events.specs.Sets.{has, ◌∈◌}
@@ -8,14 +8,13 @@ use Rattle.rules.specs.declared.Verdict.{Verdict}
 use Rattle.rules.specs.declared.Verdict.TheVariants as verdict
 use Rattle.rules.specs.automata.Rules.{Rule}
 use Rattle.rules.specs.automata.Runs.{Live, Safe}
-use Rattle.rules.specs.automata.Pruning.{Release, StandsFor, Pruned}
+use Rattle.rules.specs.automata.Pruning.{Release, Pruned}
 use Rattle.rules.specs.trees.Trees.{Tree, gives}
 use Rattle.rules.specs.watch.Verdicts.{word_of}
 use Rattle.rules.specs.watch.Holding.{tree_of, leads_to, Sound, Settled, ReleaseSet, Reads, Next}
 use Rattle.rules.proofs.automata.RunLaws.{safe_live}
 use Rattle.rules.proofs.automata.RuleLaws.{live_below}
 use Rattle.rules.proofs.watch.PromiseLaws.{settled_open, settled-released, reads_breach, reads_clear, reads_open}
-use Rattle.pruning.specs.Drafts.{rule_of}
 use Rattle.pruning.proofs.DraftLaws.{draft_well}
 use Rattle.fitting.specs.declared.plan.Plan.{Plan}
 use Rattle.fitting.specs.Plans.{plan_rule, plan_trees}

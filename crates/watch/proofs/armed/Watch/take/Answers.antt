@@ -4,7 +4,6 @@ use Rattle.rules.specs.declared.Call.TheVariants as call
 use Rattle.rules.specs.declared.Refusal.TheVariants as refusal
 use Rattle.rules.specs.declared.Answer.{Answer}
 use Rattle.rules.specs.declared.Answer.TheVariants as answer
-use Rattle.rules.specs.watch.Calls.{limit}
 use Rattle.rules.proofs.watch.CalledLaws.{called_take_breached, called_take_full, called_take_nothing_waits}
 use Rattle.fitting.specs.Plans.{plan_rule, plan_trees}
 use Rattle.fitting.proofs.PlanLaws.{plan_sound}
@@ -13,16 +12,16 @@ use Rattle.watch.specs.Watching.{CalledOn}
 use Rattle.watch.proofs.TakeLaws.{lasts, head_low, none_waits, taken-within, take_done}
 use Rattle.watch.proofs.armed.Watch.take.Goals as goal
 
-pub returns-in-default : goal.returns-in-default
-returns-in-default g c =
+pub returns-in_default : goal.returns-in_default
+returns-in_default g c =
     let p = c.args.self.now.plan.now in
     record {
       taken = called_take_breached (plan_rule p) (plan_trees p) (plan_sound p) c.args.self.now.state (g.S.LineSource.events c.args.source.now) (c.in_default.field-0, c.in_default.is);
       plan = refl;
     }
 
-pub returns-in-default-count : goal.returns-in-default-count
-returns-in-default-count g c =
+pub returns-in_default-count : goal.returns-in_default-count
+returns-in_default-count g c =
     let p = c.args.self.now.plan.now in
     let s = c.args.self.now.state in
     let full : s.count ≡ 1000000000 = omega (arith, c.args.self.now.few) in
@@ -31,8 +30,8 @@ returns-in-default-count g c =
       plan = refl;
     }
 
-pub returns-in-default-waits : goal.returns-in-default-waits
-returns-in-default-waits g c =
+pub returns-in_default-waits : goal.returns-in_default-waits
+returns-in_default-waits g c =
     let p = c.args.self.now.plan.now in
     let s = c.args.self.now.state in
     record {
@@ -45,14 +44,11 @@ pub invariant_of-self : goal.invariant_of-self
 invariant_of-self g c =
     let p = c.args.self.now.plan.now in
     let coming = g.S.LineSource.events c.args.source.now in
-    let counted = ap (λ s. s.count) c.after_event-after.ensures in (
-      omega (arith, counted),
-      (
-        taken-within p c.args.self.now.state.held _ c.gather-set.result.set c.sets.result.release c.after_event-after.result.held
-            (head_low coming (g.S.LineSource.small c.args.source.now)) c.sets.ensures.release c.gather-set.ensures.set (ap (λ s. s.held) c.after_event-after.ensures),
-        tt,
-      ),
-    )
+    let counted = ap (λ s. s.count) c.after_event-after.ensures in record {
+      few = omega (arith, counted);
+      states = taken-within p c.args.self.now.state.held _ c.gather-set.result.set c.sets.result.release c.after_event-after.result.held
+          (head_low coming (g.S.LineSource.small c.args.source.now)) c.sets.ensures.release c.gather-set.ensures.set (ap (λ s. s.held) c.after_event-after.ensures);
+    }
 
 pub returns : goal.returns
 returns g c =

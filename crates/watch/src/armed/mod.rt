@@ -14,8 +14,8 @@ pub mod take;
 
 // A watch: the plan that it was armed from, and what it keeps. It has taken at most 1,000,000,000 events, and holds states of its rule.
 #[derive(Drop)]
-pub struct Watch<'p, 'd, 'n> {
-    plan: &'p Plan<'d, 'n>,
+pub struct Watch<'p, 'd> {
+    plan: &'p Plan<'d>,
     state: Snapshot,
     ghost few: { state.count ≤ 1000000000 },
     ghost states: { (q : ℕ) → has state.held q ≡ true → q < length (plan_rule plan.now).states },

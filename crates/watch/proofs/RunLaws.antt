@@ -10,16 +10,15 @@ use Rattle.rules.specs.automata.Rules.{Rule, Event}
 use Rattle.rules.specs.trees.Trees.{Tree}
 use Rattle.rules.specs.trees.Costs.{Price}
 use Rattle.rules.specs.watch.Calls.{CallsAll}
-use Rattle.rules.specs.watch.Promises.{After, Called, Promise}
-use Rattle.rules.proofs.watch.CalledLaws.{CalledSome, called_none, called_next}
+use Rattle.rules.specs.watch.Promises.{Called}
+use Rattle.rules.proofs.watch.CalledLaws.{CalledSome, called_next}
 use Rattle.rules.proofs.watch.PromiseOne.{fitted_all_one}
 use Rattle.fitting.specs.declared.fit.Fitting.{Fitting}
 use Rattle.fitting.specs.declared.plan.Plan.{Plan}
 use Rattle.fitting.specs.Fits.{DraftFitted, told_costs}
 use Rattle.fitting.specs.Plans.{AsFitted, PlanOf, plan_rule, plan_trees}
 use Rattle.fitting.proofs.ReadLaws.{same_fitted}
-use Rattle.watch.specs.declared.run.Ran.{Ran}
-use Rattle.watch.specs.Running.{Lent, lent, CallsMade, Watched}
+use Rattle.watch.specs.Running.{Lent, CallsMade, Watched}
 use Rattle.watch.specs.Watching.{CalledOn}
 
 -- ---- one call more, whose answer is written at its place

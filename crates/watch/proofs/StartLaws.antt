@@ -1,12 +1,11 @@
 -- The set that a watch newly armed holds: the live start states, or the release state alone where one of them is safe.
-use Rattle.std.proofs.Common.{◌≡◌, ℕ, ◌^◌, ◌<◌, ◌≤◌, Bool, true, false, cond, not, ◌&&◌, T, eqb, ◌⊎◌, ◌↔◌, List, [], length, sym, refl, ap, ◌∙◌, subst, inl, inr, arith, pow_mono}
+use Rattle.std.proofs.Common.{◌≡◌, ℕ, ◌^◌, ◌<◌, Bool, true, false, cond, not, ◌&&◌, T, eqb, ◌⊎◌, ◌↔◌, sym, refl, ap, ◌∙◌, subst, inl, inr, arith}
 use lib.Bits.{bit_and, bit_or}
 use lib.Dec.{not_T}
 use Rattle.std.proofs.lemmas.Nat.{or_lt, pow_below}
 use Rattle.std.proofs.lemmas.Bool.{eqb-true, eqb-false}
 use Rattle.events.specs.Sets.{has, ◌∈◌, set_of}
-use Rattle.events.proofs.SetLaws.{dec_t, T_and, ∈-or, ∈-and, ∈_one, ∈_one_is, ∈-set_of, set_of-small, ∈_some_in, ∈_none_in}
-use Rattle.rules.specs.declared.Snapshot.{Snapshot}
+use Rattle.events.proofs.SetLaws.{T_and, ∈-or, ∈-and, ∈_one, ∈_one_is, ∈-set_of, set_of-small, ∈_some_in, ∈_none_in}
 use Rattle.rules.specs.automata.Rules.{Rule, Starts, WellFormed}
 use Rattle.rules.specs.automata.Runs.{Live, Safe}
 use Rattle.rules.specs.automata.Pruning.{Release, StandsFor}

@@ -53,7 +53,7 @@ fn tried(plan: &Plan, before: Snapshot, event: u8) -> Snapshot
     after_trial(plan.sets().release, reached, before)
 }
 
-impl Watch<'_, '_, '_> {
+impl Watch<'_, '_> {
     // Tries events from the set held now, up to the first that gives BREACH, and tells the word and how many were tried.
     pub fn rehearse(&mut self, events: &[u8]) -> Result<Tried, Refusal>
         ensures rehearsed { (coming : List ℕ) → CalledOn self.old.plan.now (call.Rehearse events.entry) self.old.state coming (rehearse_answer result) self.new.state coming }

@@ -3,4 +3,4 @@ use Rattle.std.proofs.Common.{arith}
 use Rattle.watch.proofs.armed.Watch.arm.Goals as goal
 
 pub invariant_of-result : goal.invariant_of-result
-invariant_of-result c = (omega (arith, c.armed_state.ensures.none), (c.armed_state.ensures.states, tt))
+invariant_of-result c = record { few = omega (arith, c.armed_state.ensures.none); states = c.armed_state.ensures.states }

@@ -1,5 +1,5 @@
 -- A rehearsal, event by event: what the trial holds and shows after each, and what each way out answers.
-use Rattle.std.proofs.Common.{◌≡◌, ℕ, ◌+◌, ◌<◌, ◌≤◌, true, List, [], ◌∷◌, length, get_or, sym, refl, ap, ◌∙◌, subst, ap₂, suc-ne-zero, Bor}
+use Rattle.std.proofs.Common.{◌≡◌, ℕ, ◌+◌, ◌<◌, true, List, [], ◌∷◌, length, get_or, sym, refl, ap, ◌∙◌, subst, ap₂, suc-ne-zero, Bor}
 use Rattle.std.proofs.lemmas.Bool.{lt-ltb}
 use Rattle.events.specs.Sets.{has}
 use Rattle.rules.specs.declared.Snapshot.{Snapshot}

@@ -4,7 +4,7 @@ use Rattle.rules.specs.watch.Calls as calls
 use Rattle.watch.proofs.armed.Watch.rearm.Goals as goal
 
 pub invariant_of-self : goal.invariant_of-self
-invariant_of-self c = (omega (arith, c.armed_state-self.ensures.none), (c.armed_state-self.ensures.states, tt))
+invariant_of-self c = record { few = omega (arith, c.armed_state-self.ensures.none); states = c.armed_state-self.ensures.states }
 
 pub returns : goal.returns
 returns c = record {

@@ -1,5 +1,5 @@
 -- One event tried, as the log of one event.
-use Rattle.std.proofs.Common.{◌≡◌, ℕ, ap, ◌∙◌}
+use Rattle.std.proofs.Common.{ap, ◌∙◌}
 use Rattle.rules.specs.watch.Holding.{leads_to}
 use Rattle.fitting.specs.Plans.{plan_trees}
 use Rattle.watch.proofs.TrialLaws.{one_waits, one_head, tried_is}

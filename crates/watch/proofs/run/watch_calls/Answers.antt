@@ -1,5 +1,5 @@
 -- One call more in each turn, and its answer at its place.
-use Rattle.std.proofs.Common.{◌≡◌, ℕ, ◌<◌, length, sym, refl, ◌∙◌, arith}
+use Rattle.std.proofs.Common.{◌≡◌, ◌<◌, length, refl, ◌∙◌, arith}
 use Rattle.rules.specs.declared.Call.TheVariants as call
 use Rattle.rules.specs.declared.Answer.TheVariants as answer
 use Rattle.rules.proofs.watch.CalledLaws.{called_none}

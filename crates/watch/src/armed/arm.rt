@@ -21,9 +21,9 @@ fn armed_state(plan: &Plan) -> Snapshot
     begin(sets.release, start_set(sets))
 }
 
-impl<'p, 'd, 'n> Watch<'p, 'd, 'n> {
+impl<'p, 'd> Watch<'p, 'd> {
     // A watch of no events over a plan. A plan may be armed any number of times.
-    pub fn arm(plan: &'p Plan<'d, 'n>) -> Self
+    pub fn arm(plan: &'p Plan<'d>) -> Self
         ensures armed { ArmedOn plan.now result.state }
         ensures plan { result.plan.now ≡ plan.now }
     {

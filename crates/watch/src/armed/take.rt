@@ -33,7 +33,7 @@ fn taken(after: Snapshot, polled: u8) -> Taken
     }
 }
 
-impl Watch<'_, '_, '_> {
+impl Watch<'_, '_> {
     // Takes the first event of a source.
     pub fn take<S: LineSource>(&mut self, source: &mut S) -> Result<Taken, Refusal>
         ensures taken { CalledOn self.old.plan.now call.Take self.old.state (S.LineSource.events source.old) (take_answer result) self.new.state (S.LineSource.events source.new) }

@@ -1,11 +1,10 @@
 -- A plan newly armed stands after no event, and holds states of its rule.
-use Rattle.std.proofs.Common.{◌≡◌, ℕ, ◌^◌, ◌<◌, ◌≤◌, true, ◌↔◌, List, [], length, sym, refl, ap, ◌∙◌, subst, arith, pow_mono}
+use Rattle.std.proofs.Common.{◌≡◌, ℕ, ◌^◌, ◌<◌, true, ◌↔◌, length, sym, ap, ◌∙◌, subst, arith, pow_mono}
 use Rattle.events.specs.Sets.{has, ◌∈◌}
 use Rattle.events.proofs.SetLaws.{set_of-small}
 use Rattle.rules.specs.declared.Snapshot.{Snapshot}
 use Rattle.rules.specs.automata.Rules.{Starts, WellFormed}
 use Rattle.rules.specs.automata.Runs.{Live, Safe}
-use Rattle.rules.specs.watch.Promises.{After}
 use Rattle.rules.proofs.watch.CalledLaws.{after_armed}
 use Rattle.pruning.proofs.DraftLaws.{draft_well}
 use Rattle.pruning.proofs.LiveLaws.{live_right}

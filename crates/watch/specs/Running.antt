@@ -5,7 +5,6 @@ use Rattle.rules.specs.declared.Node.{Node}
 use Rattle.rules.specs.declared.Call.{Call}
 use Rattle.rules.specs.declared.Answer.{Answer}
 use Rattle.rules.specs.automata.Rules.{Rule, Event}
-use Rattle.rules.specs.trees.Trees.{Tree}
 use Rattle.rules.specs.trees.Costs.{Price}
 use Rattle.rules.specs.watch.Calls.{CallsAll}
 use Rattle.rules.specs.watch.Promises.{Promise}

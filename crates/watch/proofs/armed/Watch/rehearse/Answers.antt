@@ -1,5 +1,5 @@
 -- The ways out of a rehearsal, after each of which the watch is as it was.
-use Rattle.std.proofs.Common.{◌≡◌, ℕ, ◌+◌, ◌<◌, length, get_or, sym, refl, ◌∙◌, arith}
+use Rattle.std.proofs.Common.{◌≡◌, ◌+◌, ◌<◌, length, get_or, sym, refl, arith}
 use Rattle.std.proofs.lemmas.Bool.{ltb-true, ltb-false}
 use Rattle.rules.specs.declared.Refusal.TheVariants as refusal
 use Rattle.rules.specs.declared.Word.TheVariants as word
@@ -8,8 +8,8 @@ use Rattle.watch.proofs.TakeLaws.{lasts}
 use Rattle.watch.proofs.TrialLaws.{Trial, trial_none, trial_more, trial_refused, trial_breach, trial_no_event, trial_all, put_back}
 use Rattle.watch.proofs.armed.Watch.rehearse.Goals as goal
 
-pub returns-in-default : goal.returns-in-default
-returns-in-default c = record {
+pub returns-in_default : goal.returns-in_default
+returns-in_default c = record {
   rehearsed = λ coming. trial_refused c.args.self.now.plan.now c.args.self.now.state c.args.events coming (c.in_default.field-0, c.in_default.is);
   state = refl;
   plan = refl;
@@ -33,7 +33,7 @@ returns-then-not-is_event c =
     }
 
 -- the trial after one event more
-trial-next : (c : goal.In-default-verdict) → Trial c.args.self.now.plan.now c.args.self.now.state c.args.events.now (c.loop-i.i + 1) c.tried-trial.result
+trial-next : (c : goal.In_default-verdict) → Trial c.args.self.now.plan.now c.args.self.now.state c.args.events.now (c.loop-i.i + 1) c.tried-trial.result
 trial-next c =
     trial_more c.args.self.now.plan.now c.args.self.now.state c.args.events.now c.loop-i.i c.loop-i.trial.state.now c.loop-i.invariant.1 c.tried-trial.result
     c.loop-i.invariant.2 c.loop-i-test.true (ltb-true _ _ (sym c.if-not-is_event.ensures)) c.tried-trial.ensures

@@ -65,7 +65,7 @@ fn count_made(calls: usize, answers: usize) -> usize
     calls.min(answers)
 }
 
-impl Watch<'_, '_, '_> {
+impl Watch<'_, '_> {
     // Makes one call, and answers what it answers.
     pub fn make<S: LineSource>(&mut self, source: &mut S, call: Call) -> Answer
         ensures made { CalledOn self.old.plan.now call.entry self.old.state (S.LineSource.events source.old) result self.new.state (S.LineSource.events source.new) }
@@ -112,7 +112,7 @@ pub fn run<M: Measure, S: LineSource>(
     calls: &[Call],
     answers: &mut [Answer],
 ) -> Result<Ran, FitRefusal>
-    ensures answered { RunAnswered (price measure.now) (rule_of draft.entry) calls.now (lent nodes.old answers.old (S.LineSource.events source.old)) (lent nodes.new answers.new (S.LineSource.events source.new)) result }
+    ensures answered { RunAnswered (M.price measure.now) (rule_of draft.entry) calls.now (lent nodes.old answers.old (S.LineSource.events source.old)) (lent nodes.new answers.new (S.LineSource.events source.new)) result }
     ensures refused { is_ok result ≡ false → source.new ≡ source.old }
 {
     let told = fit(measure, &draft, nodes)?;
