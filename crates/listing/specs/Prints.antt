@@ -1,8 +1,7 @@
--- What the program prints, from the bytes of its two files. None stands for a file that is missing or cannot be read.
+-- What the program is to print once it uses the watch, from the bytes of its two files; no code prints it yet. None stands for a file that is missing or cannot be read.
 use Rattle.std.specs.Prelude.{◌≡◌, ℕ, suc, cond, List, [], ◌∷◌, ◌++◌, map, length, replicate, Some, None, Ok, Err, codes, decimal, Option, Result, nat_le}
 use Rattle.std.specs.List.{AllByRecursion}
 use Rattle.codec.specs.declared.fault.CardFault.{CardFault}
-use Rattle.codec.specs.declared.fault.Report.{Report}
 use Rattle.codec.specs.Fault.{card_report}
 use Rattle.rules.specs.declared.Word.{Word}
 use Rattle.rules.specs.declared.Word.TheVariants as word
@@ -20,6 +19,8 @@ use Rattle.rulefile.specs.Fault.{file_report}
 use Rattle.rulefile.specs.File.{Contents, file_of}
 use Rattle.rulefile.specs.Rule.{rule_of}
 use Rattle.sources.specs.PlainLogs.{checked_log}
+use Rattle.listing.specs.Text.{refusal_text}
+use Rattle.listing.specs.Output.{unreadable_text, fault_text}
 
 -- ---- lines of text
 
@@ -32,11 +33,6 @@ word_text word.Clear = codes "CLEAR"
 -- a take: the count of events taken, the set of lines polled, and the verdict's word, with single spaces
 abbrev pub take_text : ℕ → ℕ → Word → List ℕ
 take_text count lines w = decimal count ++ (codes " " ++ (decimal lines ++ (codes " " ++ (word_text w ++ codes "\n"))))
-
--- refused 13 at 4, or without a place
-abbrev pub refusal_text : ℕ → Option ℕ → List ℕ
-refusal_text number None = codes "refused " ++ (decimal number ++ codes "\n")
-refusal_text number (Some place) = codes "refused " ++ (decimal number ++ (codes " at " ++ (decimal place ++ codes "\n")))
 
 -- the line of one answer, behind which `later` stands: a take has one line and goes on, and a refusal is the last line; takes answer nothing else
 abbrev pub answer_text : ℕ → Answer → List ℕ → List ℕ
@@ -65,18 +61,10 @@ pub record Listed (rule : Rule) (log text : List ℕ) : Type 0 where
   pub promise : Promise expected rule trees costs (replicate (suc (length log)) call.Take) log answers left
   pub lines : text ≡ takes_text 0 answers
 
--- 24: the file is missing, cannot be read or is longer than 65,536 bytes
-abbrev pub unreadable_text : List ℕ
-unreadable_text = refusal_text 24 None
-
 -- a file that is there and not too long
 abbrev pub readable : Option (List ℕ) → Option (List ℕ)
 readable None = None
 readable (Some bytes) = cond (nat_le (length bytes) 65536) (Some bytes) None
-
--- a fault's number and place
-abbrev pub fault_text : Report → List ℕ
-fault_text r = refusal_text r.number (Some r.place)
 
 -- the rule that a file holds, without the names
 abbrev pub rule_read : List ℕ → Contents → Rule
