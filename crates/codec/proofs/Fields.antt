@@ -6,7 +6,7 @@ use Rattle.codec.specs.declared.read.Read.{Read}
 use Rattle.codec.specs.Number.{encode, number_at, IsNumber, Octets}
 use Rattle.codec.specs.Field.{ranged_at}
 use Rattle.codec.proofs.Steps.{inside_ok, then_ok, else_ok}
-use Rattle.codec.proofs.Numbers.{number_exact, encode-some}
+use Rattle.codec.proofs.Numbers.{number_exact, encode_some}
 use Rattle.codec.proofs.Spans.{Spans, span_end}
 
 module _ {F : Type 0} (short : ℕ → F) (carried : NumberFault → F) (outside : ℕ → F) (f : List ℕ) where
@@ -32,7 +32,7 @@ module _ {F : Type 0} (short : ℕ → F) (carried : NumberFault → F) (outside
   pub ranged_complete : Octets f → (p low high v q : ℕ) → high < 2097152 → low ≤ v → v ≤ high → p ≤ length f → Spans f p (encode v) q
       → ranged_at short carried outside f p low high ≡ Ok (record { value = v; next = q })
   ranged_complete octets p low high v q hh l h hp s =
-      let some = encode-some v in
+      let some = encode_some v in
       let e = span_end f p q (encode v) hp s in
       let w : p < length f = omega (arith, s.inside) in
       let small : v < 2097152 = omega arith in

@@ -43,8 +43,8 @@ encode_three a b c la ha lb hb lc hc =
     ∙ rw t (ap (λ xs. a ∷ xs) (groups_more 0 (b - 128) c r' lc ∙ rw t')))
 
 -- a number has a byte
-pub encode-some : (n : ℕ) → 0 < length (encode n)
-encode-some n = cond_both (ltb n 128) _ _ (λ xs. 0 < length xs) (λ _. omega arith) (λ _. omega arith)
+pub encode_some : (n : ℕ) → 0 < length (encode n)
+encode_some n = cond_both (ltb n 128) _ _ (λ xs. 0 < length xs) (λ _. omega arith) (λ _. omega arith)
 
 module _ (f : List ℕ) (p : ℕ) (octets : Octets f) where
   Taken : Result (Read ℕ) NumberFault → Type 0
@@ -104,7 +104,7 @@ module _ (f : List ℕ) (p : ℕ) (octets : Octets f) where
 
   -- a number begins before the end
   within_of : (v q : ℕ) → IsNumber f p v q → p < length f
-  within_of v q h = omega (arith, bytes_long v q h, length-drop p f, encode-some v)
+  within_of v q h = omega (arith, bytes_long v q h, length-drop p f, encode_some v)
 
   -- the number that the first k of these bytes are has its end k further
   behind : (v q k : ℕ) → IsNumber f p v q → length (encode v) ≡ k → q ≡ p + k

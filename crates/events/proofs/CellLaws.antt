@@ -6,7 +6,7 @@ use Rattle.std.proofs.lemmas.Nat.{pow-add}
 use Rattle.std.proofs.lemmas.Bool.{cases_order, cases_eq}
 use Rattle.events.specs.Sets.{has, ◌∈◌, set_of}
 use Rattle.events.specs.Cells.{digit, agrees, Covers, covers_below, covers, lowest, one_if, count_below, free_in}
-use Rattle.events.proofs.SetLaws.{T_true, T_false, false_T, dec_t, T_and, same_mask, subset_le, ∈-set_of, has-set_of, set_of-small}
+use Rattle.events.proofs.SetLaws.{T_true, T_false, false_T, dec_t, T_and, same_mask, subset_le, ∈-set_of, has-set_of, set_of_small}
 use Rattle.events.proofs.LowestLaws.{low_is}
 
 pow3_pos : (k : ℕ) → 0 < 3 ^ k
@@ -134,9 +134,9 @@ pub free_le : (cell : ℕ) → free_in cell ≤ 6
 unfolding free_in
 free_le cell = count_le 6 (λ j. eqb (digit cell j) 0)
 
-pub free-whole : free_in 0 ≡ 6
+pub free_whole : free_in 0 ≡ 6
 unfolding free_in
-free-whole = refl
+free_whole = refl
 
 pub free_none : (cell : ℕ) → ((j : ℕ) → j < 6 → digit cell j ≡ 0 → ⊥) → free_in cell ≡ 0
 unfolding free_in
@@ -179,8 +179,8 @@ pub covers_is : (cell e : ℕ) → T (covers cell e) ↔ Covers cell e
 unfolding covers
 covers_is cell e = covers_below_lem 6 cell e
 
-pub covers-decided : (cell e : ℕ) → Covers cell e ⊎ (Covers cell e → ⊥)
-covers-decided cell e = go (dec_t (covers cell e))
+pub covers_decided : (cell e : ℕ) → Covers cell e ⊎ (Covers cell e → ⊥)
+covers_decided cell e = go (dec_t (covers cell e))
   where
     go : T (covers cell e) ⊎ (T (covers cell e) → ⊥) → Covers cell e ⊎ (Covers cell e → ⊥)
     go (inl h) = inl ((covers_is cell e).0 h)
@@ -188,9 +188,9 @@ covers-decided cell e = go (dec_t (covers cell e))
 
 -- ---- the lowest event of a cell
 
-pub lowest-small : (cell : ℕ) → lowest cell < 64
+pub lowest_small : (cell : ℕ) → lowest cell < 64
 unfolding lowest
-lowest-small cell = set_of-small 6 (λ j. eqb (digit cell j) 1)
+lowest_small cell = set_of_small 6 (λ j. eqb (digit cell j) 1)
 
 pub lowest-covered : (cell : ℕ) → Covers cell (lowest cell)
 unfolding lowest
@@ -202,9 +202,9 @@ lowest-covered cell j l = subst (λ (b : Bool). T (agrees (digit cell j) b)) (sy
     agree (suc (suc zero)) l = tt
     agree (suc (suc (suc k))) l = absurd (let no_way : ⊥ = omega arith in no_way)
 
-pub lowest-least : (cell e : ℕ) → Covers cell e → lowest cell ≤ e
+pub lowest_least : (cell e : ℕ) → Covers cell e → lowest cell ≤ e
 unfolding lowest
-lowest-least cell e c = subset_le 6 (set_of 6 (λ j. eqb (digit cell j) 1)) e (set_of-small 6 (λ j. eqb (digit cell j) 1)) inside
+lowest_least cell e c = subset_le 6 (set_of 6 (λ j. eqb (digit cell j) 1)) e (set_of_small 6 (λ j. eqb (digit cell j) 1)) inside
   where
     wanted : (d : ℕ) (on : Bool) → d ≡ 1 → T (agrees d on) → T on
     wanted d on p t = subst (λ (n : ℕ). T (agrees n on)) p t
@@ -216,8 +216,8 @@ lowest-least cell e c = subset_le 6 (set_of 6 (λ j. eqb (digit cell j) 1)) e (s
 -- a number of 64 bits with just the events that a cell covers has the cell's lowest event as its lowest bit
 pub lowest_zeros : (cell set : ℕ) → set < 2 ^ 64 → ((e : ℕ) → e < 64 → has set e ≡ covers cell e) → count_trailing_zeros 64 set ≡ lowest cell
 lowest_zeros cell set h is = low_is 64 set (lowest cell) h
-    (is (lowest cell) (lowest-small cell) ∙ T_true (covers cell (lowest cell)) ((covers_is cell (lowest cell)).1 (lowest-covered cell)))
-    (λ e l. is e (omega (arith, l, lowest-small cell)) ∙ T_false (covers cell e) (λ t. under e l (lowest-least cell e ((covers_is cell e).0 t))))
+    (is (lowest cell) (lowest_small cell) ∙ T_true (covers cell (lowest cell)) ((covers_is cell (lowest cell)).1 (lowest-covered cell)))
+    (λ e l. is e (omega (arith, l, lowest_small cell)) ∙ T_false (covers cell e) (λ t. under e l (lowest_least cell e ((covers_is cell e).0 t))))
   where
     under : (e : ℕ) → e < lowest cell → lowest cell ≤ e → ⊥
     under e l m = omega arith

@@ -451,10 +451,10 @@ has-set_of n f k l = go (dec_t (f k))
     go (inl h) = T_true _ ((∈-set_of n f k).1 (l, h)) ∙ sym (T_true _ h)
     go (inr no_way) = T_false _ (λ h. no_way ((∈-set_of n f k).0 h).1) ∙ sym (T_false _ no_way)
 
-pub set_of-small : (n : ℕ) (f : ℕ → Bool) → set_of n f < 2 ^ n
+pub set_of_small : (n : ℕ) (f : ℕ → Bool) → set_of n f < 2 ^ n
 unfolding set_of
-set_of-small zero f = zero-lt-suc 0
-set_of-small (suc n) f = go (f n) (set_of-small n f)
+set_of_small zero f = zero-lt-suc 0
+set_of_small (suc n) f = go (f n) (set_of_small n f)
   where
     go : (b : Bool) → set_of n f < 2 ^ n → cond b (bit_or (2 ^ n) (set_of n f)) (set_of n f) < 2 ^ suc n
     go true h = or_lt (suc n) (2 ^ n) (set_of n f) (pow_below n (suc n) (le_refl (suc n))) (omega (arith, h, pow_below n (suc n) (le_refl (suc n))))

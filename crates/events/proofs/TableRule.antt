@@ -20,8 +20,8 @@ unfoldable pub entries : List ℕ
 unfolding set_of covers has
 entries = tabulate (λ cell. set_of 64 (covers cell)) 0 729
 
-pub entry-rule : (cell : ℕ) → cell < 729 → (e : ℕ) → e < 64 → has (get_or entries cell 0) e ≡ covers cell e
+pub entry_rule : (cell : ℕ) → cell < 729 → (e : ℕ) → e < 64 → has (get_or entries cell 0) e ≡ covers cell e
 unfolding entries
-entry-rule cell h e l =
+entry_rule cell h e l =
     ap (λ (set : ℕ). has set e) (tabulated (λ c. set_of 64 (covers c)) 0 729 cell h ∙ ap (λ (c : ℕ). set_of 64 (covers c)) (zero-add cell))
     ∙ has-set_of 64 (covers cell) e l

@@ -11,15 +11,15 @@ use Rattle.rules.specs.trees.Costs.{Price, Lawful}
 use Rattle.rules.specs.trees.Bests.{Fitted}
 use Rattle.rules.specs.watch.Holding.{tree_of}
 use Rattle.rules.specs.watch.Promises.{FittedAll}
-use Rattle.rules.proofs.automata.PruningLaws.{serves-implements}
-use Rattle.rules.proofs.trees.LayoutLaws.{nodes-length, layout-stands, stands_more}
+use Rattle.rules.proofs.automata.PruningLaws.{serves_implements}
+use Rattle.rules.proofs.trees.LayoutLaws.{nodes_length, layout_stands, stands_more}
 use Rattle.pruning.specs.Computed.{live_states, safe_states, lowest_safe}
 use Rattle.pruning.proofs.LiveLaws.{live_small, live_right}
 use Rattle.pruning.proofs.SafeLaws.{safe_right, release_some, release_none}
 use Rattle.fitting.specs.States.{overwrite, StateFitted}
 use Rattle.fitting.specs.Fits.{NextFitted, DraftFitted}
-use Rattle.fitting.proofs.StateLaws.{rule-fitted}
-use Rattle.fitting.proofs.Layouts.{layout_more, layout-end, layout_front}
+use Rattle.fitting.proofs.StateLaws.{rule_fitted}
+use Rattle.fitting.proofs.Layouts.{layout_more, layout_end, layout_front}
 
 -- ---- top places
 
@@ -30,23 +30,23 @@ top_from_more (x ∷ trees) t place zero l = refl
 top_from_more (x ∷ trees) t place (suc k) l = top_from_more trees t (place + size_of x) k (le_of_suc-le-suc l)
 
 -- its own top is behind them
-top_from-end : (trees : List Tree) (t : Tree) (place : ℕ) → top_from place (trees ++ t ∷ []) (length trees) ≡ place + length (layout_from place trees)
-top_from-end [] t place = sym (add-zero place)
-top_from-end (x ∷ trees) t place =
+top_from_end : (trees : List Tree) (t : Tree) (place : ℕ) → top_from place (trees ++ t ∷ []) (length trees) ≡ place + length (layout_from place trees)
+top_from_end [] t place = sym (add-zero place)
+top_from_end (x ∷ trees) t place =
     let more : place + size_of x + length (layout_from (place + size_of x) trees) ≡ place + length (nodes_from place x ++ layout_from (place + size_of x) trees)
-    = omega (arith, length-append (nodes_from place x) (layout_from (place + size_of x) trees), nodes-length x place) in
-    top_from-end trees t (place + size_of x) ∙ more
+    = omega (arith, length-append (nodes_from place x) (layout_from (place + size_of x) trees), nodes_length x place) in
+    top_from_end trees t (place + size_of x) ∙ more
 
-top-end : (trees : List Tree) (t : Tree) (q : ℕ) → length trees ≡ q → top_of (trees ++ t ∷ []) q ≡ length (layout trees)
-top-end trees t q e = ap (top_from 0 (trees ++ t ∷ [])) (sym e) ∙ top_from-end trees t 0 ∙ zero-add (length (layout trees))
+top_end : (trees : List Tree) (t : Tree) (q : ℕ) → length trees ≡ q → top_of (trees ++ t ∷ []) q ≡ length (layout trees)
+top_end trees t q e = ap (top_from 0 (trees ++ t ∷ [])) (sym e) ∙ top_from_end trees t 0 ∙ zero-add (length (layout trees))
 
 -- ---- one state
 
-pub next-fitted : (price : Price) (rule : Rule) (q : ℕ) (wants : ℕ → ℕ) (place : ℕ) (before after : List Node) (behind cost : ℕ) → Lawful price → WellFormed rule → Wants rule q wants
+pub next_fitted : (price : Price) (rule : Rule) (q : ℕ) (wants : ℕ → ℕ) (place : ℕ) (before after : List Node) (behind cost : ℕ) → Lawful price → WellFormed rule → Wants rule q wants
     → StateFitted price rule.lines wants place before after behind cost → NextFitted price rule q place before after behind cost
-next-fitted price rule q wants place before after behind cost law well wanted state = record {
+next_fitted price rule q wants place before after behind cost law well wanted state = record {
   tree = state.tree;
-  fitted = rule-fitted price rule q wants place before after behind cost law well wanted state;
+  fitted = rule_fitted price rule q wants place before after behind cost law well wanted state;
   few = state.few;
   end = state.end;
   nodes = state.nodes;
@@ -109,7 +109,7 @@ module _ (price : Price) (rule : Rule) (before after : List Node) (costs tops : 
       (λ k l.
       let ne : k ≢ q = omega arith in
       get_or-set_other tops q k behind 0 ne ∙ begun.placed k l ∙ sym (top_from_more begun.trees next.tree 0 k (omega (arith, begun.many, l))))
-      (get_or-set_same tops q behind 0 (omega (arith, begun.tops_long, low)) ∙ begun.end ∙ sym (top-end begun.trees next.tree q begun.many))
+      (get_or-set_same tops q behind 0 (omega (arith, begun.tops_long, low)) ∙ begun.end ∙ sym (top_end begun.trees next.tree q begun.many))
 
   pub begun_more : Begun price rule before last (set costs q cost) (set tops q behind) end (q + 1)
   unfolding all
@@ -122,7 +122,7 @@ module _ (price : Price) (rule : Rule) (before after : List Node) (costs tops : 
         next.nodes
         ∙ ap (λ (l : List Node). overwrite l behind (nodes_from behind next.tree)) begun.nodes
         ∙ layout_more before begun.trees next.tree behind begun.end;
-    end = next.end ∙ layout-end begun.trees next.tree behind begun.end;
+    end = next.end ∙ layout_end begun.trees next.tree behind begun.end;
     few = omega (arith, begun.few, next.few, next.end);
     fitted = fitted_more;
     placed = placed_more;
@@ -133,8 +133,8 @@ module _ (price : Price) (rule : Rule) (before after : List Node) (costs tops : 
 -- ---- all states
 
 -- the live, the safe and the release states of a rule
-pub rule-kinds : (rule : Rule) → WellFormed rule → Kinds rule (live_states rule) (safe_states rule) (lowest_safe rule)
-rule-kinds rule well = record {
+pub rule_kinds : (rule : Rule) → WellFormed rule → Kinds rule (live_states rule) (safe_states rule) (lowest_safe rule)
+rule_kinds rule well = record {
   small = live_small rule well;
   live_is = live_right rule well;
   safe_is = safe_right rule well;
@@ -144,7 +144,7 @@ rule-kinds rule well = record {
 module _ (price : Price) (rule : Rule) (before after : List Node) (costs tops : List ℕ) (behind n : ℕ) (well : WellFormed rule) (room : 4064 ≤ length before)
     (is : n ≡ length rule.states) (begun : Begun price rule before after costs tops behind n) where
   few : n ≤ 32
-  few = omega (arith, is, well.few-states)
+  few = omega (arith, is, well.few_states)
 
   -- a state is one of those fitted
   among : (q : ℕ) → q < length rule.states → q < n
@@ -165,15 +165,15 @@ module _ (price : Price) (rule : Rule) (before after : List Node) (costs tops : 
 
   standing : (q : ℕ) → q < length rule.states → Stands after (get_or tops q 0) (tree_of begun.trees q)
   standing q l = subst₂ (λ (ns : List Node) (p : ℕ). Stands ns p (tree_of begun.trees q)) (sym laid_out) (sym (begun.placed q (among q l)))
-      (stands_more (layout begun.trees) (drop behind before) (tree_of begun.trees q) (top_of begun.trees q) (layout-stands begun.trees q (omega (arith, among q l, begun.many))))
+      (stands_more (layout begun.trees) (drop behind before) (tree_of begun.trees q) (top_of begun.trees q) (layout_stands begun.trees q (omega (arith, among q l, begun.many))))
 
   pub all_begun : DraftFitted price rule before after (record { costs = costs; tops = tops; states = n; behind = behind })
   all_begun = record {
     trees = begun.trees;
     counted = is;
     fitted = all_fitted;
-    implements = λ live safe release kinds q l. (serves-implements rule live safe release kinds q (tree_of begun.trees q)).0 (begun.fitted q (among q l)).serves;
-    kinds = (live_states rule, (safe_states rule, (lowest_safe rule, rule-kinds rule well)));
+    implements = λ live safe release kinds q l. (serves_implements rule live safe release kinds q (tree_of begun.trees q)).0 (begun.fitted q (among q l)).serves;
+    kinds = (live_states rule, (safe_states rule, (lowest_safe rule, rule_kinds rule well)));
     behind_is = begun.end;
     within = omega (arith, begun.few, few);
     nodes = laid_out;

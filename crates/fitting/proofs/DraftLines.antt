@@ -13,10 +13,10 @@ use Rattle.pruning.proofs.DraftLaws.{draft_well, draft_states}
 -- ---- one line
 
 -- the line that stands at a place
-pub line-there : (ls : List LineValue) (i : ℕ) (v : LineValue) → Some v ≡ slice_get ls i → v.line ≡ line_of (map (λ l. l.line) ls) i
-line-there [] i v e = absurd (let z : ◌≡◌ {A = ℕ} 0 1 = cc in let no_way : ⊥ = omega arith in no_way)
-line-there (x ∷ ls) zero v e = let same : v ≡ x = cc in ap (λ (l : LineValue). l.line) same
-line-there (x ∷ ls) (suc i) v e = line-there ls i v e
+pub line_there : (ls : List LineValue) (i : ℕ) (v : LineValue) → Some v ≡ slice_get ls i → v.line ≡ line_of (map (λ l. l.line) ls) i
+line_there [] i v e = absurd (let z : ◌≡◌ {A = ℕ} 0 1 = cc in let no_way : ⊥ = omega arith in no_way)
+line_there (x ∷ ls) zero v e = let same : v ≡ x = cc in ap (λ (l : LineValue). l.line) same
+line_there (x ∷ ls) (suc i) v e = line_there ls i v e
 
 -- there is one at each place below the length
 none_missing : (ls : List LineValue) (i : ℕ) → i < length ls → None ≡ slice_get ls i → ⊥
@@ -25,7 +25,7 @@ none_missing (x ∷ ls) zero l e = let z : ◌≡◌ {A = ℕ} 0 1 = cc in omega
 none_missing (x ∷ ls) (suc i) l e = none_missing ls i (le_of_suc-le-suc l) e
 
 pub no_line_missing : (d : Draft) (i : ℕ) → i < 6 → None ≡ slice_get (draft_rule d).lines i → ⊥
-no_line_missing d i l = none_missing (draft_rule d).lines i (omega (arith, l, (draft_well d).six-lines, length-map (draft_rule d).lines (λ v. v.line)))
+no_line_missing d i l = none_missing (draft_rule d).lines i (omega (arith, l, (draft_well d).six_lines, length-map (draft_rule d).lines (λ v. v.line)))
 
 -- ---- all lines
 

@@ -10,17 +10,17 @@ use Rattle.rules.specs.automata.Rules.{LineInRange, line_of}
 use Rattle.rules.specs.trees.Costs.{Price, Lawful, bound}
 use Rattle.rules.specs.trees.Bests.{Constant, fork_price, LowestBest, Bests}
 use Rattle.rules.proofs.trees.BestLaws.{on_below, off_below}
-use Rattle.rules.proofs.trees.BestTable.{Least, From, above_on, above_off, from_all, from_step, entry-constant, array_forked}
-use Rattle.rules.proofs.trees.ConstantLaws.{constant-decided}
+use Rattle.rules.proofs.trees.BestTable.{Least, From, above_on, above_off, from_all, from_step, entry_constant, array_forked}
+use Rattle.rules.proofs.trees.ConstantLaws.{constant_decided}
 use Rattle.fitting.specs.Tables.{value_at, SmallAfter, Picked, Chosen}
 
 -- ---- costs are within their bounds
 
 module _ (price : Price) (lines : List Line) (wants best line : ℕ → ℕ) (n : ℕ) (law : Lawful price)
     (range : (i : ℕ) → i < 6 → LineInRange (line_of lines i)) (from : From price lines wants n best line) where
-  small-fork : (u cell i : ℕ) → cell < 729 → free_in cell ≡ suc u → LowestBest price lines best cell i → best cell ≡ fork_price price lines best cell i
+  small_fork : (u cell i : ℕ) → cell < 729 → free_in cell ≡ suc u → LowestBest price lines best cell i → best cell ≡ fork_price price lines best cell i
       → best (on_cell cell i) ≤ bound u → best (off_cell cell i) ≤ bound u → best cell ≤ bound (suc u)
-  small-fork u cell i low is lowest cost on off =
+  small_fork u cell i low is lowest cost on off =
       let at = range i lowest.free.0 in
       le_trans
       (le_of_eq (cost ∙ ap (λ (m : ℕ). price (line_of lines i).cost (line_of lines i).chance m (best (on_cell cell i)) (best (off_cell cell i))) is))
@@ -28,12 +28,12 @@ module _ (price : Price) (lines : List Line) (wants best line : ℕ → ℕ) (n 
 
   -- the costs from n on are within the bounds for the lines left free
   pub small_from : (u cell : ℕ) → free_in cell ≡ u → n ≤ cell → cell < 729 → best cell ≤ bound u
-  small_from zero cell is above low = go (constant-decided wants cell)
+  small_from zero cell is above low = go (constant_decided wants cell)
     where
       go : Constant wants cell ⊎ (Constant wants cell → ⊥) → best cell ≤ bound 0
       go (inl same) = le_of_eq ((from cell low above).constant same)
       go (inr varies) = absurd (let fewer = (on_below cell (line cell) low ((from cell low above).forked varies).0.free).fewer in let no_way : ⊥ = omega arith in no_way)
-  small_from (suc u) cell is above low = go (constant-decided wants cell) (λ k. small_from u k)
+  small_from (suc u) cell is above low = go (constant_decided wants cell) (λ k. small_from u k)
     where
       go : Constant wants cell ⊎ (Constant wants cell → ⊥) → ((k : ℕ) → free_in k ≡ u → n ≤ k → k < 729 → best k ≤ bound u) → best cell ≤ bound (suc u)
       go (inl same) ih = let z = (from cell low above).constant same in omega arith
@@ -41,7 +41,7 @@ module _ (price : Price) (lines : List Line) (wants best line : ℕ → ℕ) (n 
           let (lowest, cost) = (from cell low above).forked varies in
           let on_b = on_below cell (line cell) low lowest.free in
           let off_b = off_below cell (line cell) low lowest.free in
-          small-fork u cell (line cell) low is lowest cost
+          small_fork u cell (line cell) low is lowest cost
           (ih (on_cell cell (line cell)) (suc_inj (on_b.fewer ∙ is)) (omega (arith, above, above_on cell (line cell))) on_b.low)
           (ih (off_cell cell (line cell)) (suc_inj (off_b.fewer ∙ is)) (omega (arith, above, above_off cell (line cell))) off_b.low)
 
@@ -83,7 +83,7 @@ module _ (price : Price) (lines : List Line) (wants : ℕ → ℕ) (costs chosen
       from_step price lines wants k (value_at costs) (value_at chosen) (value_at (set costs k cost)) (value_at (set chosen k line))
       (λ cell l above. filled.entries cell l (omega arith))
       (λ x l. (get_or-set_other costs k x cost 0 (λ e. let no_way : ⊥ = omega arith in no_way), get_or-set_other chosen k x line 0 (λ e. let no_way : ⊥ = omega arith in no_way)))
-      (entry-constant price lines wants (value_at (set costs k cost)) (value_at (set chosen k line)) k same (get_or-set_same costs k cost 0 in_costs ∙ z))
+      (entry_constant price lines wants (value_at (set costs k cost)) (value_at (set chosen k line)) k same (get_or-set_same costs k cost 0 in_costs ∙ z))
 
   after_forked : (line cost : ℕ) → cost ≡ fork_price price lines (value_at costs) k line → LowestBest price lines (value_at costs) k line → (Constant wants k → ⊥)
       → From price lines wants k (value_at (set costs k cost)) (value_at (set chosen k line))
@@ -103,13 +103,13 @@ module _ (price : Price) (lines : List Line) (wants : ℕ → ℕ) (costs chosen
   filled_more line cost picked = record {
     costs_long = length-set costs k cost ∙ filled.costs_long;
     chosen_long = length-set chosen k line ∙ filled.chosen_long;
-    entries = go (constant-decided wants k);
+    entries = go (constant_decided wants k);
     no_line = no_line_after line picked.no_line;
   }
     where
       go : Constant wants k ⊎ (Constant wants k → ⊥) → From price lines wants k (value_at (set costs k cost)) (value_at (set chosen k line))
       go (inl same) = after_constant line cost (picked.no_cost same) same
-      go (inr varies) = after_forked line cost (picked.priced varies) (picked.lowest-best varies) varies
+      go (inr varies) = after_forked line cost (picked.priced varies) (picked.lowest_best varies) varies
 
   -- the costs after the next cell are small
   pub small_after : Lawful price → ((i : ℕ) → i < 6 → LineInRange (line_of lines i)) → SmallAfter (value_at costs) k

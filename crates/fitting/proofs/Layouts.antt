@@ -4,7 +4,7 @@ use Rattle.std.proofs.lemmas.List.{length-append}
 use Rattle.rules.specs.declared.Node.{Node}
 use Rattle.rules.specs.trees.Trees.{Tree}
 use Rattle.rules.specs.trees.Layouts.{size_of, nodes_from, layout_from, layout}
-use Rattle.rules.proofs.trees.LayoutLaws.{nodes-length}
+use Rattle.rules.proofs.trees.LayoutLaws.{nodes_length}
 use Rattle.fitting.specs.States.{overwrite}
 use Rattle.fitting.proofs.StateLaws.{overwrite_parts}
 use Rattle.fitting.proofs.Writing.{overwrite-append}
@@ -17,7 +17,7 @@ layout_from_more (first ∷ trees) t place end e =
     ∙ sym (append_assoc (nodes_from place first) (layout_from (place + size_of first) trees) (nodes_from end t))
   where
     more : end ≡ place + size_of first + length (layout_from (place + size_of first) trees)
-    more = omega (arith, e, length-append (nodes_from place first) (layout_from (place + size_of first) trees), nodes-length first place)
+    more = omega (arith, e, length-append (nodes_from place first) (layout_from (place + size_of first) trees), nodes_length first place)
 
 -- the next tree is written behind those before it
 pub layout_more : (nodes : List Node) (trees : List Tree) (t : Tree) (end : ℕ) → end ≡ length (layout trees)
@@ -27,9 +27,9 @@ layout_more nodes trees t end e =
     ∙ ap (overwrite nodes 0) (sym (layout_from_more trees t 0 end (e ∙ sym (zero-add (length (layout trees))))))
 
 -- its end is the end of all
-pub layout-end : (trees : List Tree) (t : Tree) (end : ℕ) → end ≡ length (layout trees) → end + size_of t ≡ length (layout (trees ++ t ∷ []))
-layout-end trees t end e =
-    omega (arith, e, nodes-length t end, length-append (layout trees) (nodes_from end t), ap length (layout_from_more trees t 0 end (e ∙ sym (zero-add (length (layout trees))))))
+pub layout_end : (trees : List Tree) (t : Tree) (end : ℕ) → end ≡ length (layout trees) → end + size_of t ≡ length (layout (trees ++ t ∷ []))
+layout_end trees t end e =
+    omega (arith, e, nodes_length t end, length-append (layout trees) (nodes_from end t), ap length (layout_from_more trees t 0 end (e ∙ sym (zero-add (length (layout trees))))))
 
 -- the layout stands in front, and the rest is as it was
 pub layout_front : (nodes : List Node) (trees : List Tree) → length (layout trees) ≤ length nodes → overwrite nodes 0 (layout trees) ≡ layout trees ++ drop (length (layout trees)) nodes

@@ -7,8 +7,8 @@ use Rattle.rules.specs.trees.Layouts.{Stands, top_of}
 use Rattle.rules.specs.trees.Costs.{Price, Lawful, expected}
 use Rattle.rules.specs.trees.Bests.{Bests, Fitted}
 use Rattle.rules.specs.watch.Holding.{tree_of}
-use Rattle.rules.proofs.automata.PruningLaws.{serves-implements}
-use Rattle.rules.proofs.trees.BestLaws.{best-fitted}
+use Rattle.rules.proofs.automata.PruningLaws.{serves_implements}
+use Rattle.rules.proofs.trees.BestLaws.{best_fitted}
 use Rattle.rules.proofs.trees.MeasureLaws.{expected_lawful}
 use Rattle.rules.proofs.watch.WatchLaws.{dead_serves}
 use Rattle.rulefile.specs.declared.draft.Draft.{Draft}
@@ -21,7 +21,7 @@ use Rattle.fitting.specs.declared.fit.Fitting.{Fitting}
 use Rattle.fitting.specs.Fits.{DraftFitted}
 use Rattle.fitting.specs.Reading.{Walkable, GivesPruned}
 use Rattle.fitting.specs.Plans.{one_state, one_leaf}
-use Rattle.fitting.proofs.AllStates.{zeros, rule-kinds}
+use Rattle.fitting.proofs.AllStates.{zeros, rule_kinds}
 use Rattle.fitting.proofs.ReadLaws.{fit_walkable, fit_gives}
 
 -- ---- its draft
@@ -52,13 +52,13 @@ line_ok = record { cost_low = lit≤ tt; cost_high = lit≤ tt; chance_high = li
 
 pub one_well : WellFormed one_state
 one_well = record {
-  six-lines = refl;
+  six_lines = refl;
   lines_fit = (line_ok, (line_ok, (line_ok, (line_ok, (line_ok, (line_ok, tt))))));
-  some-state = lit≤ tt;
-  few-states = lit≤ tt;
-  some-start = (0, tt);
-  few-moves = lit≤ tt;
-  moves-fit = tt;
+  some_state = lit≤ tt;
+  few_states = lit≤ tt;
+  some_start = (0, tt);
+  few_moves = lit≤ tt;
+  moves_fit = tt;
   ascending = λ k d l. absurd (not-suc-le-zero l);
 }
 
@@ -74,7 +74,7 @@ one_bests : (price : Price) → Bests price one_state.lines (λ _. 0) (λ _. 0) 
 one_bests price = record { constant = λ cell l c. refl; forked = λ cell l varies. absurd (varies (λ a b la lb ca cb. refl)) }
 
 one_fitted : (price : Price) → Lawful price → Fitted price one_state 0 (leaf 0) 0
-one_fitted price law = best-fitted price one_state 0 (λ _. 0) (λ _. 0) (λ _. 0) law one_well (dead_serves one_state 0 one_dead) (one_bests price) (leaf 0) (λ e l c. refl)
+one_fitted price law = best_fitted price one_state 0 (λ _. 0) (λ _. 0) (λ _. 0) law one_well (dead_serves one_state 0 one_dead) (one_bests price) (leaf 0) (λ e l c. refl)
 
 -- the one state is the state 0
 only_zero : (P : ℕ → Type 0) → P 0 → (q : ℕ) → q < 1 → P q
@@ -93,8 +93,8 @@ one_draft_fitted price law =
       trees = leaf 0 ∷ [];
       counted = refl;
       fitted = record { a_tree_each = refl; a_cost_each = refl; fitted = fitted };
-      implements = λ live safe release kinds q l. (serves-implements one_state live safe release kinds q (tree_of (leaf 0 ∷ []) q)).0 (fitted q l).serves;
-      kinds = (live_states one_state, (safe_states one_state, (lowest_safe one_state, rule-kinds one_state one_well)));
+      implements = λ live safe release kinds q l. (serves_implements one_state live safe release kinds q (tree_of (leaf 0 ∷ []) q)).0 (fitted q l).serves;
+      kinds = (live_states one_state, (safe_states one_state, (lowest_safe one_state, rule_kinds one_state one_well)));
       behind_is = refl;
       within = lit≤ tt;
       nodes = refl;

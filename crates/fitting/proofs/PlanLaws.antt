@@ -29,7 +29,7 @@ use Rattle.fitting.specs.Fits.{DraftFitted, told_costs}
 use Rattle.fitting.specs.Reading.{tree_at, read_trees, start_states, as_set, release_set}
 use Rattle.fitting.specs.Plans.{PlanOf, plan_trees, one_state, one_leaf}
 use Rattle.fitting.proofs.OneState.{contents_rule, one_told, one_draft_fitted}
-use Rattle.fitting.proofs.ReadLaws.{sound_stands, length-tabled, get_or-tabled, read-fitted, read-stands, read_tops}
+use Rattle.fitting.proofs.ReadLaws.{sound_stands, length-tabled, get_or-tabled, read_fitted, read_stands, read_tops}
 
 -- ---- sets of states
 
@@ -84,8 +84,8 @@ module _ (plan : Plan) where
   pub plan_stands : (q : ℕ) → q < length (rule_of plan.draft).states → Stands plan.nodes.now (get_or plan.tops q 0) (tree_of (plan_trees plan) q)
   plan_stands q l = subst (Stands plan.nodes.now (get_or plan.tops q 0)) (sym (tree_is q l)) (sound_stands 7 plan.nodes.now (get_or plan.tops q 0) (plan.walkable q l))
 
-  gives-there : (q : ℕ) → q < length (rule_of plan.draft).states → (e : ℕ) → e < 64 → gives (tree_of (plan_trees plan) q) e ≡ pruned_set (rule_of plan.draft) q e
-  gives-there q l e le =
+  gives_there : (q : ℕ) → q < length (rule_of plan.draft).states → (e : ℕ) → e < 64 → gives (tree_of (plan_trees plan) q) e ≡ pruned_set (rule_of plan.draft) q e
+  gives_there q l e le =
       ap (λ (t : Tree). gives t e) (tree_is q l)
       ∙ sym (get_or-tabled 64 (gives (tree_at 7 plan.nodes.now (get_or plan.tops q 0))) e 0 le)
       ∙ ap (λ (xs : List ℕ). get_or xs e 0) (plan.pruned q l)
@@ -97,7 +97,7 @@ module _ (plan : Plan) where
       (omega (arith, past, length-tabled (length (rule_of plan.draft).states) (λ k. tree_at 7 plan.nodes.now (get_or plan.tops k 0))))
 
   serves_all : (q : ℕ) → (q < length (rule_of plan.draft).states) ⊎ (length (rule_of plan.draft).states ≤ q) → Serves (rule_of plan.draft) q (tree_of (plan_trees plan) q)
-  serves_all q (inl l) = λ e le. subst (IsPrunedSet (rule_of plan.draft) q e) (sym (gives-there q l e le)) (pruned_right (rule_of plan.draft) (draft_well plan.draft) q e)
+  serves_all q (inl l) = λ e le. subst (IsPrunedSet (rule_of plan.draft) q e) (sym (gives_there q l e le)) (pruned_right (rule_of plan.draft) (draft_well plan.draft) q e)
   serves_all q (inr past) =
       subst (Serves (rule_of plan.draft) q) (sym (past_leaf q past)) (dead_serves (rule_of plan.draft) q (below.past_dead (rule_of plan.draft) (draft_well plan.draft) q past))
 
@@ -121,8 +121,8 @@ module _ (price : Price) (rule : Rule) (nodes : List Node) (told : Fitting) (fit
   top_is : (q : ℕ) → get_or plan.tops q 0 ≡ get_or told.tops q 0
   top_is q = ap (λ (ts : List ℕ). get_or ts q 0) tops_are
 
-  stands-there : (q : ℕ) → q < length rule.states → Stands nodes (get_or plan.tops q 0) (tree_of (plan_trees plan) q)
-  stands-there q l = subst₂ (λ (p : ℕ) (ts : List Tree). Stands nodes p (tree_of ts q)) (sym (top_is q)) (sym trees_are) (read-stands price rule nodes nodes told fit q l)
+  stands_there : (q : ℕ) → q < length rule.states → Stands nodes (get_or plan.tops q 0) (tree_of (plan_trees plan) q)
+  stands_there q l = subst₂ (λ (p : ℕ) (ts : List Tree). Stands nodes p (tree_of ts q)) (sym (top_is q)) (sym trees_are) (read_stands price rule nodes nodes told fit q l)
 
   pub plan_is : PlanOf price rule nodes plan
   plan_is =
@@ -131,8 +131,8 @@ module _ (price : Price) (rule : Rule) (nodes : List Node) (told : Fitting) (fit
         rule_is = rule_is;
         nodes_are = nodes_are;
         costs = told_costs told;
-        fitted = subst (λ (ts : List Tree). FittedAll price rule ts (told_costs told)) (sym trees_are) (read-fitted price rule nodes nodes told fit);
-        stands = stands-there;
+        fitted = subst (λ (ts : List Tree). FittedAll price rule ts (told_costs told)) (sym trees_are) (read_fitted price rule nodes nodes told fit);
+        stands = stands_there;
         tops_are = λ q l. top_is q ∙ read_tops price rule nodes nodes told fit q l ∙ ap (λ (ts : List Tree). top_of ts q) (sym trees_are);
         lines_are = plan.lines_are ∙ ap (λ (r : Rule). r.lines) rule_is;
         live_is = λ q. subst₂ (λ (s : ℕ) (r : Rule). (q ∈ s) ↔ Live r q) (sym plan.live_is) rule_is (live_right (rule_of d) (draft_well d) q);

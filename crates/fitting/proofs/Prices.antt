@@ -14,8 +14,8 @@ pub bound_most : (u : ℕ) → u ≤ 6 → bound u ≤ 6000000000000000
 bound_most u h = mul-le-mul (mul-le-mul_left 1000 h) (pow-le-pow_right {n = 100} (omega arith) h)
 
 -- the numbers of a fork are such as a measure is asked to price
-pub fork-priced : (f : ForkNumbers) → Priced f.cost f.chance (f.unpolled - 1) f.on f.off
-fork-priced f = record {
+pub fork_priced : (f : ForkNumbers) → Priced f.cost f.chance (f.unpolled - 1) f.on f.off
+fork_priced f = record {
   c_low = f.cost_low;
   c_high = f.cost_high;
   p_high = f.chance_high;
@@ -29,7 +29,7 @@ pub price_small : (price : Price) → Lawful price → (f : ForkNumbers) → pri
 price_small price law f =
     let one_more : suc (f.unpolled - 1) ≡ f.unpolled = omega (arith, f.some) in
     subst (λ (u : ℕ). price f.cost f.chance u f.on f.off ≤ 6000000000000000) one_more
-    (le_trans (law.bounded _ _ _ _ _ (fork-priced f)) (bound_most (suc (f.unpolled - 1)) (omega (arith, f.few, f.some))))
+    (le_trans (law.bounded _ _ _ _ _ (fork_priced f)) (bound_most (suc (f.unpolled - 1)) (omega (arith, f.few, f.some))))
 
 -- ---- the two parts of a fork on a free line
 
@@ -52,5 +52,5 @@ module _ (best : ℕ → ℕ) (cell line u : ℕ) (small : SmallAfter best cell)
   pub some_left : 1 ≤ u
   some_left = omega (arith, is, (on_below cell line low free).fewer)
 
-  pub few-left : u ≤ 6
-  few-left = omega (arith, is, free_le cell)
+  pub few_left : u ≤ 6
+  few_left = omega (arith, is, free_le cell)

@@ -11,8 +11,8 @@ use Rattle.rules.specs.trees.Costs.{Price}
 use Rattle.rules.specs.watch.Holding.{tree_of}
 use Rattle.rules.specs.watch.Promises.{FittedAll}
 use Rattle.rules.proofs.automata.PruningLaws.{pruned_one}
-use Rattle.rules.proofs.trees.LayoutLaws.{layout-stands, stands_more}
-use Rattle.rules.proofs.trees.MeanCost.{Depth, depth_of, free-few}
+use Rattle.rules.proofs.trees.LayoutLaws.{layout_stands, stands_more}
+use Rattle.rules.proofs.trees.MeanCost.{Depth, depth_of, free_few}
 use Rattle.rules.proofs.watch.PromiseOne.{fitted_all_one}
 use Rattle.pruning.specs.Computed.{pruned_set}
 use Rattle.pruning.proofs.SafeLaws.{pruned_right}
@@ -82,10 +82,10 @@ module _ (price : Price) (rule : Rule) (before after : List Node) (told : Fittin
   once q l = (fit.fitted.fitted q l).polls_once
 
   deep : (q : ℕ) → q < length rule.states → Depth 6 (tree_of fit.trees q)
-  deep q l = depth_of (tree_of fit.trees q) 6 0 (once q l) (free-few 6 0)
+  deep q l = depth_of (tree_of fit.trees q) 6 0 (once q l) (free_few 6 0)
 
-  tree-read : (q : ℕ) → q < length rule.states → tree_at 7 after (get_or told.tops q 0) ≡ tree_of fit.trees q
-  tree-read q l = reads_tree after (tree_of fit.trees q) 6 (get_or told.tops q 0) (fit.stands q l) (deep q l)
+  tree_read : (q : ℕ) → q < length rule.states → tree_at 7 after (get_or told.tops q 0) ≡ tree_of fit.trees q
+  tree_read q l = reads_tree after (tree_of fit.trees q) 6 (get_or told.tops q 0) (fit.stands q l) (deep q l)
 
   pub fit_walkable : Walkable rule after told.tops
   fit_walkable q l = sound_tree after (tree_of fit.trees q) 0 6 (get_or told.tops q 0) (fit.stands q l) (deep q l) (once q l)
@@ -93,25 +93,25 @@ module _ (price : Price) (rule : Rule) (before after : List Node) (told : Fittin
   pub fit_gives : WellFormed rule → GivesPruned rule after told.tops
   fit_gives well q l = tabled_same 64 (gives (tree_at 7 after (get_or told.tops q 0))) (pruned_set rule q)
       (λ e le.
-      ap (λ (t : Tree). gives t e) (tree-read q l)
+      ap (λ (t : Tree). gives t e) (tree_read q l)
       ∙ pruned_one rule q e (gives (tree_of fit.trees q) e) (pruned_set rule q e) ((fit.fitted.fitted q l).serves e le) (pruned_right rule well q e))
 
-  trees-read : read_trees rule after told.tops ≡ fit.trees
+  trees_read : read_trees rule after told.tops ≡ fit.trees
   unfolding read_trees
-  trees-read = ext_get_or (leaf 0) (tabled (length rule.states) (λ q. tree_at 7 after (get_or told.tops q 0))) fit.trees
+  trees_read = ext_get_or (leaf 0) (tabled (length rule.states) (λ q. tree_at 7 after (get_or told.tops q 0))) fit.trees
       (length-tabled (length rule.states) (λ q. tree_at 7 after (get_or told.tops q 0)) ∙ sym fit.fitted.a_tree_each)
       (λ q l.
       let low : q < length rule.states = omega (arith, l, length-tabled (length rule.states) (λ q. tree_at 7 after (get_or told.tops q 0))) in
-      get_or-tabled (length rule.states) (λ q. tree_at 7 after (get_or told.tops q 0)) q (leaf 0) low ∙ tree-read q low)
+      get_or-tabled (length rule.states) (λ q. tree_at 7 after (get_or told.tops q 0)) q (leaf 0) low ∙ tree_read q low)
 
-  pub read-fitted : FittedAll price rule (read_trees rule after told.tops) (told_costs told)
-  read-fitted = subst (λ (ts : List Tree). FittedAll price rule ts (told_costs told)) (sym trees-read) fit.fitted
+  pub read_fitted : FittedAll price rule (read_trees rule after told.tops) (told_costs told)
+  read_fitted = subst (λ (ts : List Tree). FittedAll price rule ts (told_costs told)) (sym trees_read) fit.fitted
 
-  pub read-stands : (q : ℕ) → q < length rule.states → Stands after (get_or told.tops q 0) (tree_of (read_trees rule after told.tops) q)
-  read-stands q l = subst (λ (ts : List Tree). Stands after (get_or told.tops q 0) (tree_of ts q)) (sym trees-read) (fit.stands q l)
+  pub read_stands : (q : ℕ) → q < length rule.states → Stands after (get_or told.tops q 0) (tree_of (read_trees rule after told.tops) q)
+  read_stands q l = subst (λ (ts : List Tree). Stands after (get_or told.tops q 0) (tree_of ts q)) (sym trees_read) (fit.stands q l)
 
   pub read_tops : (q : ℕ) → q < length rule.states → get_or told.tops q 0 ≡ top_of (read_trees rule after told.tops) q
-  read_tops q l = fit.tops_are q l ∙ ap (λ (ts : List Tree). top_of ts q) (sym trees-read)
+  read_tops q l = fit.tops_are q l ∙ ap (λ (ts : List Tree). top_of ts q) (sym trees_read)
 
   -- ---- the front of the nodes
 
@@ -126,7 +126,7 @@ module _ (price : Price) (rule : Rule) (before after : List Node) (told : Fittin
     standing : (q : ℕ) → q < length rule.states → Stands nodes (get_or told.tops q 0) (tree_of fit.trees q)
     standing q l = subst₂ (λ (ns : List Node) (p : ℕ). Stands ns p (tree_of fit.trees q)) (sym laid_out) (sym (fit.tops_are q l))
         (stands_more (layout fit.trees) (drop told.behind nodes) (tree_of fit.trees q) (top_of fit.trees q)
-        (layout-stands fit.trees q (omega (arith, l, fit.fitted.a_tree_each))))
+        (layout_stands fit.trees q (omega (arith, l, fit.fitted.a_tree_each))))
 
     pub same_fitted : DraftFitted price rule nodes nodes told
     same_fitted = record {

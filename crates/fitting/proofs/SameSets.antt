@@ -7,7 +7,7 @@ use Rattle.events.specs.Sets.{has}
 use Rattle.events.specs.Cells.{Covers, covers, lowest}
 use Rattle.events.proofs.SetLaws.{true_T, false_T, has_none}
 use Rattle.events.proofs.LowestLaws.{low_member, without}
-use Rattle.events.proofs.CellLaws.{covers_is, lowest-small, lowest-covered}
+use Rattle.events.proofs.CellLaws.{covers_is, lowest_small, lowest-covered}
 use Rattle.rules.specs.trees.Bests.{Constant}
 
 -- the covered events that are left to compare; the others have the set of the lowest
@@ -37,7 +37,7 @@ module _ (wants : ℕ → ℕ) (cell rest : ℕ) (left : Left wants cell rest) (
 
   -- its set is another
   pub left_differs : (wants (count_trailing_zeros 64 rest) ≡ wants (lowest cell) → ⊥) → Constant wants cell → ⊥
-  left_differs ne same = ne (same (count_trailing_zeros 64 rest) (lowest cell) next_low (lowest-small cell) next_in (lowest-covered cell))
+  left_differs ne same = ne (same (count_trailing_zeros 64 rest) (lowest cell) next_low (lowest_small cell) next_in (lowest-covered cell))
 
   -- its set is the same
   pub left_less : wants (count_trailing_zeros 64 rest) ≡ wants (lowest cell) → Left wants cell (bit_and rest (rest - 1))

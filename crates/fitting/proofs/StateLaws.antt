@@ -3,7 +3,7 @@ use Rattle.std.proofs.Common.{◌≡◌, ℕ, ◌+◌, ◌%◌, ◌^◌, ◌<◌
 use native.Mathlib.Nat.{zero-div}
 use Rattle.std.proofs.lemmas.List.{length-set, length-take-le, take-append-drop, take_more_set, drop-set-lt}
 use Rattle.events.proofs.SetLaws.{∈_none}
-use Rattle.events.proofs.CellLaws.{covers_all, free-whole}
+use Rattle.events.proofs.CellLaws.{covers_all, free_whole}
 use Rattle.rules.specs.declared.Line.{Line}
 use Rattle.rules.specs.declared.Node.{Node}
 use Rattle.rules.specs.automata.Rules.{Rule, WellFormed, LineInRange, line_of}
@@ -12,8 +12,8 @@ use Rattle.rules.specs.trees.Trees.{Tree, PollsOnce}
 use Rattle.rules.specs.trees.Layouts.{size_of, nodes_from, Stands}
 use Rattle.rules.specs.trees.Costs.{Price, Lawful, expected, cost_of, mean_cost, IsTrillionfold}
 use Rattle.rules.specs.trees.Bests.{Bests, BestTree, Fitted}
-use Rattle.rules.proofs.trees.BestLaws.{Unpolled, lower, best_right, best_cost, best_polls_once, best-fitted}
-use Rattle.rules.proofs.trees.LayoutLaws.{nodes-length, nodes_stand, size_small}
+use Rattle.rules.proofs.trees.BestLaws.{Unpolled, lower, best_right, best_cost, best_polls_once, best_fitted}
+use Rattle.rules.proofs.trees.LayoutLaws.{nodes_length, nodes_stand, size_small}
 use Rattle.rules.proofs.trees.MeanCost.{mean_trillionfold}
 use Rattle.fitting.specs.States.{overwrite, Written, GivesWanted, StateFitted}
 
@@ -31,7 +31,7 @@ overwrite_parts xs i (y ∷ ys) h =
 -- a tree stands where it is written
 pub written_stands : (nodes : List Node) (place : ℕ) (t : Tree) → place + size_of t ≤ length nodes → Stands (overwrite nodes place (nodes_from place t)) place t
 written_stands nodes place t room =
-    let long = nodes-length t place in
+    let long = nodes_length t place in
     subst (λ (l : List Node). Stands l place t) (sym (overwrite_parts nodes place (nodes_from place t) (omega (arith, room, long))))
     (nodes_stand t (take place nodes) (drop (place + length (nodes_from place t)) nodes) place (sym (length-take-le place nodes (omega (arith, room)))))
 
@@ -39,12 +39,12 @@ written_stands nodes place t room =
 
 module _ (price : Price) (lines : List Line) (wants best line : ℕ → ℕ) (law : Lawful price) (range : (i : ℕ) → i < 6 → LineInRange (line_of lines i))
     (bests : Bests price lines wants best line) where
-  no_line-polled : Unpolled 0 0
-  no_line-polled i l out = ap (λ (n : ℕ). n % 3) (zero-div (3 ^ i))
+  no_line_polled : Unpolled 0 0
+  no_line_polled i l out = ap (λ (n : ℕ). n % 3) (zero-div (3 ^ i))
 
-  top-cheapest : (other : Tree) → GivesWanted wants other → PollsOnce 0 other → best 0 ≤ cost_of price lines 6 other
-  top-cheapest other right once = subst (λ (n : ℕ). best 0 ≤ cost_of price lines n other) free-whole
-      (lower price lines wants best line law range bests other 0 0 (lit≤ tt) once no_line-polled (λ e l c. right e l))
+  top_cheapest : (other : Tree) → GivesWanted wants other → PollsOnce 0 other → best 0 ≤ cost_of price lines 6 other
+  top_cheapest other right once = subst (λ (n : ℕ). best 0 ≤ cost_of price lines n other) free_whole
+      (lower price lines wants best line law range bests other 0 0 (lit≤ tt) once no_line_polled (λ e l c. right e l))
 
   module _ (t : Tree) (is_best : BestTree wants line 0 t) where
     top_right : GivesWanted wants t
@@ -54,15 +54,15 @@ module _ (price : Price) (lines : List Line) (wants best line : ℕ → ℕ) (la
     top_once = best_polls_once price lines wants best line bests t 0 0 (lit≤ tt) (λ i h. absurd (∈_none i h)) is_best
 
     top_cost : cost_of price lines 6 t ≡ best 0
-    top_cost = subst (λ (n : ℕ). cost_of price lines n t ≡ best 0) free-whole (best_cost price lines wants best line bests t 0 (lit≤ tt) is_best)
+    top_cost = subst (λ (n : ℕ). cost_of price lines n t ≡ best 0) free_whole (best_cost price lines wants best line bests t 0 (lit≤ tt) is_best)
 
-    top-mean : price ≡ expected → IsTrillionfold (mean_cost lines t) (best 0)
-    top-mean same = subst (IsTrillionfold (mean_cost lines t)) (sym (ap (λ (m : Price). cost_of m lines 6 t) same) ∙ top_cost) (mean_trillionfold lines t top_once)
+    top_mean : price ≡ expected → IsTrillionfold (mean_cost lines t) (best 0)
+    top_mean same = subst (IsTrillionfold (mean_cost lines t)) (sym (ap (λ (m : Price). cost_of m lines 6 t) same) ∙ top_cost) (mean_trillionfold lines t top_once)
 
   -- a state is fitted where its tree is written from its tables
-  pub state-fitted : (place : ℕ) (before after : List Node) (behind : ℕ) → place + 127 ≤ length before → Written wants line 0 place before after behind
+  pub state_fitted : (place : ℕ) (before after : List Node) (behind : ℕ) → place + 127 ≤ length before → Written wants line 0 place before after behind
       → StateFitted price lines wants place before after behind (best 0)
-  state-fitted place before after behind room written =
+  state_fitted place before after behind room written =
       let t = written.tree in
       let few = size_small t (top_once t written.best) in
       record {
@@ -70,23 +70,23 @@ module _ (price : Price) (lines : List Line) (wants best line : ℕ → ℕ) (la
         best = best;
         line = line;
         bests = bests;
-        best-tree = written.best;
+        best_tree = written.best;
         few = few;
         end = written.end;
         nodes = written.nodes;
         stands = subst (λ (l : List Node). Stands l place t) (sym written.nodes) (written_stands before place t (omega (arith, room, few)));
         top = refl;
         costs = sym (top_cost t written.best);
-        gives-wanted = top_right t written.best;
+        gives_wanted = top_right t written.best;
         polls_once = top_once t written.best;
-        cheapest = top-cheapest;
-        mean = top-mean t written.best;
+        cheapest = top_cheapest;
+        mean = top_mean t written.best;
       }
 
 -- ---- for a state of a rule, that is what fitting promises
 
-pub rule-fitted : (price : Price) (rule : Rule) (q : ℕ) (wants : ℕ → ℕ) (place : ℕ) (before after : List Node) (behind cost : ℕ) → Lawful price → WellFormed rule → Wants rule q wants
+pub rule_fitted : (price : Price) (rule : Rule) (q : ℕ) (wants : ℕ → ℕ) (place : ℕ) (before after : List Node) (behind cost : ℕ) → Lawful price → WellFormed rule → Wants rule q wants
     → (state : StateFitted price rule.lines wants place before after behind cost) → Fitted price rule q state.tree cost
-rule-fitted price rule q wants place before after behind cost law well is-wanted state =
+rule_fitted price rule q wants place before after behind cost law well is-wanted state =
     subst (Fitted price rule q state.tree) (sym state.top)
-    (best-fitted price rule q wants state.best state.line law well is-wanted state.bests state.tree state.best-tree)
+    (best_fitted price rule q wants state.best state.line law well is-wanted state.bests state.tree state.best_tree)

@@ -3,15 +3,15 @@ use Rattle.std.proofs.Common.{◌≡◌, ℕ, suc, ◌+◌, ◌*◌, ◌^◌, �
 use Rattle.std.proofs.lemmas.Nat.{pow_pos}
 use Rattle.std.proofs.lemmas.List.{length-set, set_comm}
 use Rattle.events.specs.Cells.{Free, free_in, lowest, on_cell, off_cell}
-use Rattle.events.proofs.CellLaws.{lowest-small, lowest-covered}
+use Rattle.events.proofs.CellLaws.{lowest_small, lowest-covered}
 use Rattle.rules.specs.declared.Node.{Node}
 use Rattle.rules.specs.declared.Node.TheVariants as node
 use Rattle.rules.specs.trees.Trees.{Tree, leaf, fork}
 use Rattle.rules.specs.trees.Layouts.{size_of, nodes_from}
 use Rattle.rules.specs.trees.Bests.{Constant, BestTree}
 use Rattle.rules.proofs.trees.BestLaws.{on_below, off_below}
-use Rattle.rules.proofs.trees.ConstantLaws.{constant-decided}
-use Rattle.rules.proofs.trees.LayoutLaws.{nodes-length}
+use Rattle.rules.proofs.trees.ConstantLaws.{constant_decided}
+use Rattle.rules.proofs.trees.LayoutLaws.{nodes_length}
 use Rattle.fitting.specs.States.{overwrite, Written}
 use Rattle.fitting.specs.Tables.{Chosen}
 
@@ -32,13 +32,13 @@ set-overwrite xs i j y (z ∷ ys) h =
     ∙ ap (λ (l : List _). overwrite l (j + 1) ys) (set_comm xs j i z y (omega arith))
 
 -- the on part, the off part behind it, and the fork before them
-fork-nodes : (nodes : List Node) (place p i off : ℕ) (on-part off_part : Tree) → p ≡ place + 1 → off ≡ p + size_of on-part
+fork_nodes : (nodes : List Node) (place p i off : ℕ) (on-part off_part : Tree) → p ≡ place + 1 → off ≡ p + size_of on-part
     → set (overwrite (overwrite nodes p (nodes_from p on-part)) off (nodes_from off off_part)) place (node.Fork i p off)
     ≡ overwrite nodes place (nodes_from place (fork i on-part off_part))
-fork-nodes nodes place p i off on-part off_part e d =
+fork_nodes nodes place p i off on-part off_part e d =
     set-overwrite (overwrite nodes p ons) place off top offs (omega arith)
     ∙ ap (λ (l : List Node). overwrite l off offs) (set-overwrite nodes place p top ons (omega arith))
-    ∙ sym (overwrite-append (set nodes place top) p ons offs off (d ∙ ap (λ (n : ℕ). p + n) (sym (nodes-length on-part p))))
+    ∙ sym (overwrite-append (set nodes place top) p ons offs off (d ∙ ap (λ (n : ℕ). p + n) (sym (nodes_length on-part p))))
     ∙ ap (λ (n : ℕ). overwrite (set nodes place top) n (ons ++ offs)) e
     ∙ ap₂ (λ (a b : ℕ). overwrite nodes place (node.Fork i a b ∷ (nodes_from a on-part ++ nodes_from b off_part))) first second
   where
@@ -61,8 +61,8 @@ fork-nodes nodes place p i off on-part off_part e d =
 
 module _ (wants line : ℕ → ℕ) (chosen : Chosen wants line) (cell : ℕ) (low : cell < 729) where
   -- where no line is chosen, the cell is constant
-  leaf-constant : 6 ≤ line cell → Constant wants cell
-  leaf-constant none = go (constant-decided wants cell)
+  leaf_constant : 6 ≤ line cell → Constant wants cell
+  leaf_constant none = go (constant_decided wants cell)
     where
       go : Constant wants cell ⊎ (Constant wants cell → ⊥) → Constant wants cell
       go (inl same) = same
@@ -71,7 +71,7 @@ module _ (wants line : ℕ → ℕ) (chosen : Chosen wants line) (cell : ℕ) (l
   pub leaf_written : 6 ≤ line cell → (nodes : List Node) (place : ℕ) → Written wants line cell place nodes (set nodes place (node.Leaf (wants (lowest cell)))) (place + 1)
   leaf_written none nodes place = record {
     tree = leaf (wants (lowest cell));
-    best = λ e l c. leaf-constant none e (lowest cell) l (lowest-small cell) c (lowest-covered cell);
+    best = λ e l c. leaf_constant none e (lowest cell) l (lowest_small cell) c (lowest-covered cell);
     small = omega (arith, pow-suc 2 (free_in cell), pow_pos (free_in cell));
     end = refl;
     nodes = refl;
@@ -83,15 +83,15 @@ module _ (wants line : ℕ → ℕ) (chosen : Chosen wants line) (cell : ℕ) (l
   fork_varies : line cell < 6 → Constant wants cell → ⊥
   fork_varies some same = let six = chosen.no_line cell low same in omega arith
 
-  pub fork-free : line cell < 6 → Free cell (line cell)
-  fork-free some = chosen.free cell low (fork_varies some)
+  pub fork_free : line cell < 6 → Free cell (line cell)
+  fork_free some = chosen.free cell low (fork_varies some)
 
   -- each part has one free line less
   pub on_fewer : line cell < 6 → (k : ℕ) → k ≡ on_cell cell (line cell) → suc (free_in k) ≡ free_in cell
-  on_fewer some k e = subst (λ (n : ℕ). suc (free_in n) ≡ free_in cell) (sym e) (on_below cell (line cell) low (fork-free some)).fewer
+  on_fewer some k e = subst (λ (n : ℕ). suc (free_in n) ≡ free_in cell) (sym e) (on_below cell (line cell) low (fork_free some)).fewer
 
   pub off_fewer : line cell < 6 → (k : ℕ) → k ≡ off_cell cell (line cell) → suc (free_in k) ≡ free_in cell
-  off_fewer some k e = subst (λ (n : ℕ). suc (free_in n) ≡ free_in cell) (sym e) (off_below cell (line cell) low (fork-free some)).fewer
+  off_fewer some k e = subst (λ (n : ℕ). suc (free_in n) ≡ free_in cell) (sym e) (off_below cell (line cell) low (fork_free some)).fewer
 
   -- so it has half of the room
   pub half_room : (child : ℕ) → suc (free_in child) ≡ free_in cell → 2 ^ suc (free_in cell) ≡ 2 * 2 ^ suc (free_in child)
@@ -110,5 +110,5 @@ module _ (wants line : ℕ → ℕ) (chosen : Chosen wants line) (cell : ℕ) (l
     nodes =
         ap (λ (l : List Node). set l place (node.Fork (line cell) (place + 1) off)) off_part.nodes
         ∙ ap (λ (l : List Node). set (overwrite l off (nodes_from off off_part.tree)) place (node.Fork (line cell) (place + 1) off)) on.nodes
-        ∙ fork-nodes nodes place (place + 1) (line cell) off on.tree off_part.tree refl on.end;
+        ∙ fork_nodes nodes place (place + 1) (line cell) off on.tree off_part.tree refl on.end;
   }

@@ -31,7 +31,7 @@ pub record StateFitted (price : Price) (lines : List Line) (wants : ℕ → ℕ)
   pub best : ℕ → ℕ
   pub line : ℕ → ℕ
   pub bests : Bests price lines wants best line
-  pub best-tree : BestTree wants line 0 tree
+  pub best_tree : BestTree wants line 0 tree
   -- its nodes, and the rest as it was
   pub few : size_of tree ≤ 127
   pub end : behind ≡ place + size_of tree
@@ -41,7 +41,7 @@ pub record StateFitted (price : Price) (lines : List Line) (wants : ℕ → ℕ)
   pub top : cost ≡ best 0
   pub costs : cost ≡ cost_of price lines 6 tree
   -- it gives what is wanted, polls no line twice, and no such tree costs less
-  pub gives-wanted : GivesWanted wants tree
+  pub gives_wanted : GivesWanted wants tree
   pub polls_once : PollsOnce 0 tree
   pub cheapest : (other : Tree) → GivesWanted wants other → PollsOnce 0 other → cost ≤ cost_of price lines 6 other
   -- by the expected cost, the cost told is 10 ^ 12 times the mean

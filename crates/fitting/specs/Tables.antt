@@ -17,7 +17,7 @@ SmallAfter best cell = (k : ℕ) → cell < k → k < 729 → best k ≤ bound (
 pub record Picked (price : Price) (lines : List Line) (wants best : ℕ → ℕ) (cell line cost : ℕ) : Type 0 where
   pub no_line : Constant wants cell → line ≡ 6
   pub no_cost : Constant wants cell → cost ≡ 0
-  pub lowest-best : (Constant wants cell → ⊥) → LowestBest price lines best cell line
+  pub lowest_best : (Constant wants cell → ⊥) → LowestBest price lines best cell line
   pub priced : (Constant wants cell → ⊥) → cost ≡ fork_price price lines best cell line
 
 -- a table of chosen lines: 6 for a constant cell, and a free line for any other

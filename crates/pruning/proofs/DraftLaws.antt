@@ -38,8 +38,8 @@ line_fields f p n h =
     let chances = field_within f cost.0.next 0 100 chance.0 chance.1 in
     rw is (record { cost_low = costs.0; cost_high = costs.1; chance_high = chances.1 })
 
-line-within : (f : List ℕ) (p : ℕ) (n : Read LineRecord) → line_record_at f p ≡ Ok n → LineInRange n.value.line
-line-within f p n h =
+line_within : (f : List ℕ) (p : ℕ) (n : Read LineRecord) → line_record_at f p ≡ Ok n → LineInRange n.value.line
+line_within f p n h =
     let here = else_ok (leb (length f) p) _ _ n h in
     let card = then_ok fault.Card (line_at f p) _ n here.1 in
     let is = sym (inside_ok card.2) in
@@ -51,8 +51,8 @@ record Within (k : ℕ) (m : Move) : Type 0 where
   pub on_cell : m.cell < 729
   pub enters : m.to < k
 
-move-within : (f : List ℕ) (k p : ℕ) (n : Read Move) → 0 < k → move_at f p k ≡ Ok n → Within k n.value
-move-within f k p n some h =
+move_within : (f : List ℕ) (k p : ℕ) (n : Read Move) → 0 < k → move_at f p k ≡ Ok n → Within k n.value
+move_within f k p n some h =
     let from = then_ok (λ e. e) (field_at f p 0 (k - 1)) _ n h in
     let cell = then_ok (λ e. e) (field_at f from.0.next 0 728) _ n from.2 in
     let to = then_ok (λ e. e) (field_at f cell.0.next 0 (k - 1)) _ n cell.2 in
@@ -66,16 +66,16 @@ move-within f k p n some h =
 Next : ℕ → Option Move → Move → Type 0
 Next k last m = Within k m × (follows last m ≡ true)
 
-next-within : (f : List ℕ) (k : ℕ) → 0 < k → (last : Option Move) (p : ℕ) (n : Read Move) → next_move_at f k last p ≡ Ok n → Next k last n.value
+next_within : (f : List ℕ) (k : ℕ) → 0 < k → (last : Option Move) (p : ℕ) (n : Read Move) → next_move_at f k last p ≡ Ok n → Next k last n.value
 unfolding Next
-next-within f k some last p n h =
+next_within f k some last p n h =
     let a = then_ok (λ e. e) (move_record_at f p k) _ n h in
     let here = else_ok (leb (length f) p) _ _ a.0 a.1 in
     let b = then_ok fault.Card (move_at f p k) _ a.0 here.1 in
     let c = if_ok (follows last a.0.value) _ _ n a.2 in
     let z = inside_ok b.2 in
     let z' = inside_ok c.1 in
-    rw (← z') (move-within f k p a.0 some (rw z at b.1), c.0)
+    rw (← z') (move_within f k p a.0 some (rw z at b.1), c.0)
 
 -- ---- rows
 
@@ -159,18 +159,18 @@ module _ (f : List ℕ) (c : Contents) (h : file_of f ≡ Ok c) where
       let moves = then_ok (λ e. e) (move_cards_at f n.0.value m.0.next m.0.value) _ c m.2 in
       let all = else_ok (ltb moves.0.next (length f)) _ _ c moves.2 in
       let is = sym (inside_ok all.1) in
-      let rows = in_row {S = Unit {0}} (λ _. tt) (λ _. line_record_at f) (λ _ l. LineInRange l.line) (λ s p n e. line-within f p n e) 6 tt version.0.next lines.0 lines.1 in
+      let rows = in_row {S = Unit {0}} (λ _. tt) (λ _. line_record_at f) (λ _ l. LineInRange l.line) (λ s p n e. line_within f p n e) 6 tt version.0.next lines.0 lines.1 in
       rw is (row_all {S = Unit {0}} (λ _. tt) (λ _ l. LineInRange l.line) (λ l. LineInRange l.line) (λ s x p. p) tt lines.0.value rows, start.0)
 
   moves_row : InRow Some (Next (length c.states)) None c.moves
   moves_row =
       let p = parts_of f c h in
-      in_row Some (next_move_at f (length c.states)) (Next (length c.states)) (next-within f (length c.states) p.some)
+      in_row Some (next_move_at f (length c.states)) (Next (length c.states)) (next_within f (length c.states) p.some)
       (length c.moves) None c.moves_start (record { value = c.moves; next = p.moves_next }) p.moves_read
 
-  moves-within : AllByRecursion (Within (length c.states)) c.moves
+  moves_within : AllByRecursion (Within (length c.states)) c.moves
   unfolding Next
-  moves-within = row_all Some (Next (length c.states)) (Within (length c.states)) (λ s x p. p.0) None c.moves moves_row
+  moves_within = row_all Some (Next (length c.states)) (Within (length c.states)) (λ s x p. p.0) None c.moves moves_row
 
 -- the rule of records
 abbrev rule_from : List ℕ → List LineRecord → List StateRecord → List Move → Rule
@@ -181,14 +181,14 @@ contents_well f c h =
     let p = parts_of f c h in
     let count : length (map (λ s. s.state) (map (state_in f) c.states)) ≡ length c.states = length-map _ _ ∙ length-map c.states (state_in f) in
     record {
-      six-lines = length-map _ _ ∙ (length-map c.lines (line_in f) ∙ p.six);
+      six_lines = length-map _ _ ∙ (length-map c.lines (line_in f) ∙ p.six);
       lines_fit = rw (lines_same f c.lines) (All-map LineInRange (λ l. l.line) c.lines (rows_within f c h).0);
-      some-state = omega (arith, count, p.some);
-      few-states = omega (arith, count, p.few);
-      some-start = rw (states_same f c.states) (start_is c.states (rows_within f c h).1);
-      few-moves = p.few_moves;
-      moves-fit = All-weaker (Within (length c.states)) (MoveInRange (rule_from f c.lines c.states c.moves))
-          (λ m w. record { from_low = rw count w.leaves; cell_low = w.on_cell; to_low = rw count w.enters }) c.moves (moves-within f c h);
+      some_state = omega (arith, count, p.some);
+      few_states = omega (arith, count, p.few);
+      some_start = rw (states_same f c.states) (start_is c.states (rows_within f c h).1);
+      few_moves = p.few_moves;
+      moves_fit = All-weaker (Within (length c.states)) (MoveInRange (rule_from f c.lines c.states c.moves))
+          (λ m w. record { from_low = rw count w.leaves; cell_low = w.on_cell; to_low = rw count w.enters }) c.moves (moves_within f c h);
       ascending = ascends (length c.states) c.moves (moves_row f c h);
     }
 
@@ -213,9 +213,9 @@ pub draft_states : (d : Draft) → (rule_of d).states ≡ map (λ s. s.state) d.
 draft_states d = states_same d.file.now d.states.now
 
 pub draft_few : (d : Draft) → length d.states.now ≤ 32
-draft_few d = omega (arith, (draft_well d).few-states, ap length (draft_states d), length-map d.states.now (λ s. s.state))
+draft_few d = omega (arith, (draft_well d).few_states, ap length (draft_states d), length-map d.states.now (λ s. s.state))
 
 pub draft_ranged : (d : Draft) → Ranged (rule_of d).moves
 draft_ranged d = All-weaker (MoveInRange (rule_of d)) InRange
-    (λ m r. record { leaves = omega (arith, r.from_low, (draft_well d).few-states); on_cell = r.cell_low; enters = omega (arith, r.to_low, (draft_well d).few-states) })
-    (rule_of d).moves (draft_well d).moves-fit
+    (λ m r. record { leaves = omega (arith, r.from_low, (draft_well d).few_states); on_cell = r.cell_low; enters = omega (arith, r.to_low, (draft_well d).few_states) })
+    (rule_of d).moves (draft_well d).moves_fit

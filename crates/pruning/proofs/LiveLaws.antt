@@ -6,7 +6,7 @@ use lib.Count.{ones}
 use Rattle.std.proofs.lemmas.Nat.{pow_below}
 use Rattle.std.proofs.lemmas.Bool.{eq-eqb, ne_eqb}
 use Rattle.events.specs.Sets.{has, ◌∈◌, Subset}
-use Rattle.events.proofs.SetLaws.{true_T, TOr, T_and, ∈-set_of, set_of-small, ∈_below, ∈_some_in, ∈_none_in, ∈_one, ∈_one_is, grown}
+use Rattle.events.proofs.SetLaws.{true_T, TOr, T_and, ∈-set_of, set_of_small, ∈_below, ∈_some_in, ∈_none_in, ∈_one, ∈_one_is, grown}
 use Rattle.rules.specs.declared.Move.{Move}
 use Rattle.rules.specs.declared.State.{State}
 use Rattle.rules.specs.automata.Rules.{Rule, Any, Accepts, WellFormed}
@@ -15,7 +15,7 @@ use Rattle.rules.proofs.automata.MaskLaws.{Edge, Way, ReachesInto, into_more, re
 use Rattle.rules.proofs.automata.RuleLaws.{state_at_lem, step_below}
 use Rattle.pruning.specs.Computed.{meets, entry, leads, targets, accepting, widened, reaching, turning, live_in, live_states}
 use Rattle.pruning.proofs.RoundLaws.{Keeps, Grows, settled_keep, settled_done, settled-next, grown_settled}
-use Rattle.pruning.proofs.LoopLaws.{targets-small}
+use Rattle.pruning.proofs.LoopLaws.{targets_small}
 
 -- ---- sets with a common member
 
@@ -45,7 +45,7 @@ widened_is edges set q =
 
 pub widened_small : (edges : ℕ → ℕ) (set : ℕ) → widened edges set < 2 ^ 32
 unfolding widened
-widened_small edges set = set_of-small 32 (λ q. has set q || meets (edges q) set)
+widened_small edges set = set_of_small 32 (λ q. has set q || meets (edges q) set)
 
 module _ (edges : ℕ → ℕ) where
   keeps : Keeps (widened edges)
@@ -76,8 +76,8 @@ module _ (edges : ℕ → ℕ) where
   unfolding reaching
   reaching_keep P more set h = settled_keep (widened edges) P more set h
 
-  pub reaching-small : (set : ℕ) → set < 2 ^ 32 → reaching edges set < 2 ^ 32
-  reaching-small set small = reaching_keep (λ s. s < 2 ^ 32) (λ s l. widened_small edges s) set small
+  pub reaching_small : (set : ℕ) → set < 2 ^ 32 → reaching edges set < 2 ^ 32
+  reaching_small set small = reaching_keep (λ s. s < 2 ^ 32) (λ s l. widened_small edges s) set small
 
   seed_in : (seed : ℕ) → seed < 2 ^ 32 → Subset seed (reaching edges seed)
   seed_in seed small = (reaching_keep (λ s. (s < 2 ^ 32) × Subset seed s) (λ s h. (widened_small edges s, λ q k. grows s h.0 q (h.1 q k))) seed (small, λ q h. h)).1
@@ -105,7 +105,7 @@ module _ (rule : Rule) (well : WellFormed rule) where
   edge_below : (q r : ℕ) → Edge rule q r → (q < 32) × (r < 32)
   edge_below q r (e, ok, step) =
       let both = step_below rule well q e r step in
-      (omega (arith, both.0, well.few-states), omega (arith, both.1, well.few-states))
+      (omega (arith, both.0, well.few_states), omega (arith, both.1, well.few_states))
 
   pub target_is : (q r : ℕ) → (r ∈ targets rule.moves q) ↔ Edge rule q r
   unfolding targets
@@ -121,7 +121,7 @@ module _ (rule : Rule) (well : WellFormed rule) where
       subst (λ (s : ℕ). q ∈ s) (reaching_fixed (targets rule.moves) seed small)
       ((widened_is (targets rule.moves) (reaching (targets rule.moves) seed) q).1 (
         (edge_below q r edge).0,
-        inr ((meets_is (targets rule.moves q) (reaching (targets rule.moves) seed) (targets-small rule.moves q)).1 (r, (target_is q r).1 edge, h)),
+        inr ((meets_is (targets rule.moves q) (reaching (targets rule.moves) seed) (targets_small rule.moves q)).1 (r, (target_is q r).1 edge, h)),
       ))
 
   -- each member reaches the seed
@@ -134,7 +134,7 @@ module _ (rule : Rule) (well : WellFormed rule) where
       go : (q ∈ set) ⊎ T (meets (targets rule.moves q) set) → ReachesInto rule seed q
       go (inl k) = sound q k
       go (inr m) =
-          let (r, edge, k) = (meets_is (targets rule.moves q) set (targets-small rule.moves q)).0 m in
+          let (r, edge, k) = (meets_is (targets rule.moves q) set (targets_small rule.moves q)).0 m in
           into_more rule seed q r ((target_is q r).0 edge) (sound r k)
 
   pub reaching_is : (seed : ℕ) → seed < 2 ^ 32 → (q : ℕ) → (q ∈ reaching (targets rule.moves) seed) ↔ ReachesInto rule seed q
@@ -151,7 +151,7 @@ module _ (rule : Rule) (well : WellFormed rule) where
       ((λ h. at.1 (set.0 h)), (λ h. set.1 (at.0 h)))
 
   accepts_below : (q : ℕ) → Accepts rule q → q < 32
-  accepts_below q h = omega (arith, ((state_at_lem (λ s. T s.accepting) rule.states (record { start = false; accepting = false }) q).0 h).0, well.few-states)
+  accepts_below q h = omega (arith, ((state_at_lem (λ s. T s.accepting) rule.states (record { start = false; accepting = false }) q).0 h).0, well.few_states)
 
   abbrev turns_at : ℕ → Bool
   turns_at q = has (accepting rule.states) q && meets (targets rule.moves q) (reaching (targets rule.moves) (2 ^ q))
@@ -159,7 +159,7 @@ module _ (rule : Rule) (well : WellFormed rule) where
   turning_fwd : (a : ℕ) → (a < 32) × T (turns_at a) → Turns rule a
   turning_fwd a (low, h) =
       let (acc, m) = (T_and (has (accepting rule.states) a) (meets (targets rule.moves a) (reaching (targets rule.moves) (2 ^ a)))).0 h in
-      let (r, edge, k) = (meets_is (targets rule.moves a) (reaching (targets rule.moves) (2 ^ a)) (targets-small rule.moves a)).0 m in
+      let (r, edge, k) = (meets_is (targets rule.moves a) (reaching (targets rule.moves) (2 ^ a)) (targets_small rule.moves a)).0 m in
       let (t, one, way) = (reaching_is (2 ^ a) (pow_below a 32 low) r).0 k in
       ((accepting_is a).0 acc, (r, (target_is a r).0 edge, subst (Way rule r) (∈_one_is t a one) way))
 
@@ -169,7 +169,7 @@ module _ (rule : Rule) (well : WellFormed rule) where
         low,
         (T_and (has (accepting rule.states) a) (meets (targets rule.moves a) (reaching (targets rule.moves) (2 ^ a)))).1 (
           (accepting_is a).1 acc,
-          (meets_is (targets rule.moves a) (reaching (targets rule.moves) (2 ^ a)) (targets-small rule.moves a)).1 (r, (target_is a r).1 edge, (reaching_is (2 ^ a) (pow_below a 32 low) r).1 (a, ∈_one a, way)),
+          (meets_is (targets rule.moves a) (reaching (targets rule.moves) (2 ^ a)) (targets_small rule.moves a)).1 (r, (target_is a r).1 edge, (reaching_is (2 ^ a) (pow_below a 32 low) r).1 (a, ∈_one a, way)),
         ),
       )
 
@@ -180,21 +180,21 @@ module _ (rule : Rule) (well : WellFormed rule) where
     (λ h. (∈-set_of 32 turns_at a).1 (turning_bwd a h)),
   )
 
-  turning-small : turning (targets rule.moves) (accepting rule.states) < 2 ^ 32
+  turning_small : turning (targets rule.moves) (accepting rule.states) < 2 ^ 32
   unfolding turning
-  turning-small = set_of-small 32 turns_at
+  turning_small = set_of_small 32 turns_at
 
   -- ---- the live states
 
   pub live_small : live_states rule < 2 ^ 32
   unfolding live_states
-  live_small = reaching-small (targets rule.moves) (turning (targets rule.moves) (accepting rule.states)) turning-small
+  live_small = reaching_small (targets rule.moves) (turning (targets rule.moves) (accepting rule.states)) turning_small
 
   pub live_right : (q : ℕ) → (q ∈ live_states rule) ↔ Live rule q
   unfolding live_states
   live_right =
       live_is rule (turning (targets rule.moves) (accepting rule.states)) (reaching (targets rule.moves) (turning (targets rule.moves) (accepting rule.states)))
-      turning_is (reaching_is (turning (targets rule.moves) (accepting rule.states)) turning-small)
+      turning_is (reaching_is (turning (targets rule.moves) (accepting rule.states)) turning_small)
 
 -- from the masks of the edges and the set of accepting states
 pub live_from : (rule : Rule) (moves : List Move) (states : List State) (masks : List ℕ) (accepts r : ℕ) → moves ≡ rule.moves → states ≡ rule.states

@@ -6,7 +6,7 @@ use Rattle.std.proofs.lemmas.List.{take_more, take_all}
 use Rattle.std.proofs.lemmas.Bool.{cases_eq, eq-eqb, ne_eqb, lt-ltb}
 use Rattle.events.specs.Cells.{covers}
 use Rattle.events.specs.Sets.{has, set_of}
-use Rattle.events.proofs.SetLaws.{has-or, has_one, has_none, has-set_of, same_mask, set_of-small}
+use Rattle.events.proofs.SetLaws.{has-or, has_one, has_none, has-set_of, same_mask, set_of_small}
 use Rattle.rules.specs.declared.Move.{Move}
 use Rattle.pruning.specs.Computed.{InRange, leads, targets, covered, covered_into}
 
@@ -47,28 +47,28 @@ leads-push : (xs : List Move) (m : Move) (q r : ℕ) → leads (xs ++ m ∷ []) 
 leads-push [] m q r = or_false (eqb m.from q && eqb m.to r)
 leads-push (x ∷ xs) m q r = ap (λ (b : Bool). (eqb x.from q && eqb x.to r) || b) (leads-push xs m q r) ∙ or_assoc (eqb x.from q && eqb x.to r) (leads xs q r) (eqb m.from q && eqb m.to r)
 
-pub targets-small : (xs : List Move) (q : ℕ) → targets xs q < 2 ^ 32
+pub targets_small : (xs : List Move) (q : ℕ) → targets xs q < 2 ^ 32
 unfolding targets
-targets-small xs q = set_of-small 32 (leads xs q)
+targets_small xs q = set_of_small 32 (leads xs q)
 
 targets-has : (xs : List Move) (q r : ℕ) → r < 32 → has (targets xs q) r ≡ leads xs q r
 unfolding targets
 targets-has xs q r l = has-set_of 32 (leads xs q) r l
 
 targets_none : (q : ℕ) → targets [] q ≡ 0
-targets_none q = same_mask 32 (targets [] q) 0 (targets-small [] q) (pow_pos 32) (λ r l. targets-has [] q r l ∙ sym (has_none r))
+targets_none q = same_mask 32 (targets [] q) 0 (targets_small [] q) (pow_pos 32) (λ r l. targets-has [] q r l ∙ sym (has_none r))
 
 -- a move from q adds its target
 targets_same : (xs : List Move) (m : Move) (q : ℕ) → m.to < 32 → m.from ≡ q → bit_or (targets xs q) (2 ^ m.to) ≡ targets (xs ++ m ∷ []) q
 targets_same xs m q to e =
-    same_mask 32 (bit_or (targets xs q) (2 ^ m.to)) (targets (xs ++ m ∷ []) q) (or_lt 32 (targets xs q) (2 ^ m.to) (targets-small xs q) (pow_below m.to 32 to)) (targets-small (xs ++ m ∷ []) q)
+    same_mask 32 (bit_or (targets xs q) (2 ^ m.to)) (targets (xs ++ m ∷ []) q) (or_lt 32 (targets xs q) (2 ^ m.to) (targets_small xs q) (pow_below m.to 32 to)) (targets_small (xs ++ m ∷ []) q)
     (λ r l. has-or (targets xs q) (2 ^ m.to) r ∙ ap₂ (λ (a b : Bool). a || b) (targets-has xs q r l) (has_one m.to r ∙ eqb_swap r m.to)
     ∙ ap (λ (b : Bool). leads xs q r || (b && eqb m.to r)) (sym (eq-eqb m.from q e)) ∙ sym (leads-push xs m q r) ∙ sym (targets-has (xs ++ m ∷ []) q r l))
 
 -- and any other move adds nothing
 targets_other : (xs : List Move) (m : Move) (q : ℕ) → (m.from ≡ q → ⊥) → targets xs q ≡ targets (xs ++ m ∷ []) q
 targets_other xs m q ne =
-    same_mask 32 (targets xs q) (targets (xs ++ m ∷ []) q) (targets-small xs q) (targets-small (xs ++ m ∷ []) q)
+    same_mask 32 (targets xs q) (targets (xs ++ m ∷ []) q) (targets_small xs q) (targets_small (xs ++ m ∷ []) q)
     (λ r l. targets-has xs q r l ∙ sym (or_false (leads xs q r)) ∙ ap (λ (b : Bool). leads xs q r || (b && eqb m.to r)) (sym (ne_eqb m.from q ne))
     ∙ sym (leads-push xs m q r) ∙ sym (targets-has (xs ++ m ∷ []) q r l))
 
@@ -156,5 +156,5 @@ module _ (moves : List Move) (i : ℕ) (m d : Move) (q states events : ℕ) (l :
 pub covering_all : (moves : List Move) (i q states events : ℕ) → length moves ≤ i → Covering (take i moves) q states events → events ≡ covered_into moves q states
 unfolding covered_into
 covering_all moves i q states events l inv =
-    same_mask 64 events (set_of 64 (covered moves q states)) inv.0 (set_of-small 64 (covered moves q states))
+    same_mask 64 events (set_of 64 (covered moves q states)) inv.0 (set_of_small 64 (covered moves q states))
     (λ e le. inv.1 e le ∙ ap (λ (xs : List Move). covered xs q states e) (take_all i moves l) ∙ sym (has-set_of 64 (covered moves q states) e le))

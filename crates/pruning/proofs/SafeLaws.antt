@@ -6,7 +6,7 @@ use Rattle.events.specs.Sets.{has, ◌∈◌, Subset, set_of}
 use Rattle.events.specs.Cells.{Covers, covers}
 use Rattle.events.proofs.CellLaws.{covers_is}
 use Rattle.events.proofs.LowestLaws.{low_member, low_least}
-use Rattle.events.proofs.SetLaws.{true_T, false_T, TOr, T_and, ∈-set_of, set_of-small, ∈_below, ∈_every, ∈_none, same_members, no_member, grown, below_width}
+use Rattle.events.proofs.SetLaws.{true_T, false_T, TOr, T_and, ∈-set_of, set_of_small, ∈_below, ∈_every, ∈_none, same_members, no_member, grown, below_width}
 use Rattle.rules.specs.declared.Move.{Move}
 use Rattle.rules.specs.automata.Rules.{Rule, Any, WellFormed}
 use Rattle.rules.specs.automata.Runs.{Safe}
@@ -56,7 +56,7 @@ every_is f = (fwd, bwd)
     fwd h e l = ((∈-set_of 64 f e).0 (subst (λ (s : ℕ). e ∈ s) (sym (eqb→eq (set_of 64 f) (2 ^ 64 - 1) h)) (∈_every 64 e l))).1
 
     bwd : ((e : ℕ) → e < 64 → T (f e)) → T (eqb (set_of 64 f) (2 ^ 64 - 1))
-    bwd all = true_T (eqb (set_of 64 f) (2 ^ 64 - 1)) (eq-eqb (set_of 64 f) (2 ^ 64 - 1) (same_members 64 (set_of 64 f) (2 ^ 64 - 1) (set_of-small 64 f) (lit< tt)
+    bwd all = true_T (eqb (set_of 64 f) (2 ^ 64 - 1)) (eq-eqb (set_of 64 f) (2 ^ 64 - 1) (same_members 64 (set_of 64 f) (2 ^ 64 - 1) (set_of_small 64 f) (lit< tt)
         (λ k. ((λ h. ∈_every 64 k ((∈-set_of 64 f k).0 h).0), (λ h. let l = ∈_below 64 k (2 ^ 64 - 1) (lit< tt) h in (∈-set_of 64 f k).1 (l, all k l))))))
 
 -- ---- one round
@@ -88,7 +88,7 @@ kept_is moves set q = (
 module _ (moves : List Move) where
   pub kept_small : (set : ℕ) → kept moves set < 2 ^ 32
   unfolding kept
-  kept_small set = set_of-small 32 (stays_at moves set)
+  kept_small set = set_of_small 32 (stays_at moves set)
 
   keeps : Keeps (kept moves)
   keeps set small = kept_small set

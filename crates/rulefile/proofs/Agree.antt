@@ -23,8 +23,8 @@ begins rows old h = front rows old old (length rows) refl h
 pub begun : {A : Type 0} (rows old : List A) (n : ℕ) → length rows ≡ n → take n old ≡ rows → old ≡ overlaid rows old
 begun rows old n e h = sym (take-append-drop n old) ∙ rw (h, e)
 
-pub agrees-file : (f : List ℕ) (ss : List StateRecord) (ms : List Move) (c : Contents) → Agrees f ss ms c → file_of f ≡ Ok c
-agrees-file f ss ms c a =
+pub agrees_file : (f : List ℕ) (ss : List StateRecord) (ms : List Move) (c : Contents) → Agrees f ss ms c → file_of f ≡ Ok c
+agrees_file f ss ms c a =
     let x = then_ok (λ e. e) (room (length ss) (length ms)) _ c a.read in
     let y = then_ok refusal.File (file_of f) _ c x.2 in
     y.1 ∙ ap Ok (inside_ok y.2)
@@ -39,11 +39,11 @@ module _ (f : List ℕ) (o : Outline) (h : Ok o ≡ outlined (file_of f)) where
   pub outline_moves : rows_of (move_cards_at f o.states o.moves_at o.moves) ≡ found.0.moves
   outline_moves = ap (λ (x : Outline). rows_of (move_cards_at f x.states x.moves_at x.moves)) found.2 ∙ ap rows_of (parts_of f found.0 found.1).moves_read
 
-  pub states-good : is_ok (state_cards_at f o.states_at o.states) ≡ true
-  states-good = ap (λ (x : Outline). is_ok (state_cards_at f x.states_at x.states)) found.2 ∙ ap is_ok (parts_of f found.0 found.1).states_read
+  pub states_good : is_ok (state_cards_at f o.states_at o.states) ≡ true
+  states_good = ap (λ (x : Outline). is_ok (state_cards_at f x.states_at x.states)) found.2 ∙ ap is_ok (parts_of f found.0 found.1).states_read
 
-  pub moves-good : is_ok (move_cards_at f o.states o.moves_at o.moves) ≡ true
-  moves-good = ap (λ (x : Outline). is_ok (move_cards_at f x.states x.moves_at x.moves)) found.2 ∙ ap is_ok (parts_of f found.0 found.1).moves_read
+  pub moves_good : is_ok (move_cards_at f o.states o.moves_at o.moves) ≡ true
+  moves_good = ap (λ (x : Outline). is_ok (move_cards_at f x.states x.moves_at x.moves)) found.2 ∙ ap is_ok (parts_of f found.0 found.1).moves_read
 
   states_count : o.states ≡ length found.0.states
   states_count = ap (λ (x : Outline). x.states) found.2
@@ -61,7 +61,7 @@ module _ (f : List ℕ) (o : Outline) (h : Ok o ≡ outlined (file_of f)) where
 
   module _ (ss : List StateRecord) (ms : List Move) where
     same_contents : (c : Contents) → Agrees f ss ms c → c ≡ found.0
-    same_contents c a = inside_ok (sym (agrees-file f ss ms c a) ∙ found.1)
+    same_contents c a = inside_ok (sym (agrees_file f ss ms c a) ∙ found.1)
 
     pub must_states : (c : Contents) → Agrees f ss ms c → take o.states ss ≡ rows_of (state_cards_at f o.states_at o.states)
     must_states c a =
@@ -103,23 +103,23 @@ of_file f octets ls ss ms ok el es em = go (file_of f) refl
 
 module _ (f : List ℕ) (ss : List StateRecord) (ms : List Move) (c : Contents) (a : Agrees f ss ms c) (o : Outline) (is : o ≡ outline_of c) where
   pub drafted_six : length o.lines ≡ 6
-  drafted_six = ap (λ (x : Outline). length x.lines) is ∙ (parts_of f c (agrees-file f ss ms c a)).six
+  drafted_six = ap (λ (x : Outline). length x.lines) is ∙ (parts_of f c (agrees_file f ss ms c a)).six
 
   pub drafted_read : is_ok (file_of f) ≡ true
-  drafted_read = ap is_ok (agrees-file f ss ms c a)
+  drafted_read = ap is_ok (agrees_file f ss ms c a)
 
   pub drafted_lines : o.lines ≡ rows_of_lines (file_of f)
-  drafted_lines = ap (λ (x : Outline). x.lines) is ∙ sym (ap rows_of_lines (agrees-file f ss ms c a))
+  drafted_lines = ap (λ (x : Outline). x.lines) is ∙ sym (ap rows_of_lines (agrees_file f ss ms c a))
 
   pub drafted_states : take (o.states - 0) ss ≡ rows_of_states (file_of f)
   drafted_states =
       let n : o.states - 0 ≡ length c.states = omega (arith, ap (λ (x : Outline). x.states) is) in
-      ap (λ k. take k ss) n ∙ (begins c.states ss a.states_are ∙ sym (ap rows_of_states (agrees-file f ss ms c a)))
+      ap (λ k. take k ss) n ∙ (begins c.states ss a.states_are ∙ sym (ap rows_of_states (agrees_file f ss ms c a)))
 
   pub drafted_moves : take (o.moves - 0) ms ≡ rows_of_moves (file_of f)
   drafted_moves =
       let n : o.moves - 0 ≡ length c.moves = omega (arith, ap (λ (x : Outline). x.moves) is) in
-      ap (λ k. take k ms) n ∙ (begins c.moves ms a.moves_are ∙ sym (ap rows_of_moves (agrees-file f ss ms c a)))
+      ap (λ k. take k ms) n ∙ (begins c.moves ms a.moves_are ∙ sym (ap rows_of_moves (agrees_file f ss ms c a)))
 
 -- a draft has at most 1,062 cards
 pub few_cards : (f : List ℕ) (ls : List LineRecord) (ss : List StateRecord) (ms : List Move) → length ls ≡ 6 → is_ok (file_of f) ≡ true

@@ -23,7 +23,7 @@ outlined_err (Err d) e h = cc
 pub readable_yes : (f : List ℕ) (a b : ℕ) (c : Contents) → Octets f → 32 ≤ a → 1024 ≤ b → file_of f ≡ Ok c → Readable f a b
 readable_yes f a b c octets ra rb h =
     let t = file_sound f octets c h in
-    record { state-room = ra; move-room = rb; rule = rule_of f c; good = t.0; bytes = t.1 }
+    record { state_room = ra; move_room = rb; rule = rule_of f c; good = t.0; bytes = t.1 }
 
 pub unreadable : (f : List ℕ) (a b : ℕ) (e : FileFault) → Octets f → file_of f ≡ Err e → Readable f a b → ⊥
 unreadable f a b e octets h r =
@@ -49,8 +49,8 @@ recorded f c ss ss' ms ms' octets h es em =
         states_are = ap (map (state_in f)) (front c.states ss ss' _ (sym long) es);
         moves_are = front c.moves ms ms' _ refl em;
       };
-      states-counted = sym long;
-      moves-counted = refl;
+      states_counted = sym long;
+      moves_counted = refl;
     }
 
 -- room for the records of every good file

@@ -14,7 +14,7 @@ use Rattle.rulefile.specs.Card.{LineValue, StateValue, line_at, state_at, move_a
 use Rattle.rulefile.specs.File.{Contents, count_at, line_record_at, state_record_at, move_record_at, next_move_at, before, follows, row_from, line_cards_at, state_cards_at, move_cards_at, any_start, name_before, file_of}
 use Rattle.rulefile.specs.Rule.{Rule, encode_name, encode_line, flags_of, encode_state, encode_move, encode_rule, GoodLine, GoodState, GoodMove, GoodRule, Before, Ascending, HasStart, line_in, state_in, rule_of, FileExact}
 use Rattle.codec.proofs.Steps.{inside_ok, then_ok, else_ok, if_ok}
-use Rattle.codec.proofs.Numbers.{encode-some}
+use Rattle.codec.proofs.Numbers.{encode_some}
 use Rattle.rulefile.proofs.Cards.{line_sound, line_complete, state_sound, state_complete, move_sound, move_complete}
 use Rattle.codec.proofs.Fields.{ranged_sound, ranged_complete}
 use Rattle.codec.proofs.Spans.{Spans, join, split, span_end, span_take, span_none}
@@ -86,7 +86,7 @@ module _ (f : List ℕ) (octets : Octets f) where
   room_of : (v : ℕ) (more : List ℕ) (p q : ℕ) → p ≤ length f → Spans f p (encode v ++ more) q → leb (length f) p ≡ false
   room_of v more p q h s =
       let t = split f p q (encode v) more h s in
-      let some = encode-some v in
+      let some = encode_some v in
       lt-leb (length f) p (omega (arith, t.0.inside))
 
   state_record_sound : (p : ℕ) (n : Read StateRecord) → p ≤ length f → state_record_at f p ≡ Ok n → GoodState (state_in f n.value) × Spans f p (encode_state (state_in f n.value)) n.next
@@ -248,8 +248,8 @@ module _ (f : List ℕ) (octets : Octets f) where
   unfolding Complete
   moves_complete k few s v p q h g t = next_move_complete f octets k few s v p q h g t
 
-  six-lines : (p q k : ℕ) (ls : List LineRecord) → k ≡ 6 → row_from {S = Unit {0}} (λ _. tt) (λ _. line_record_at f) tt p k ≡ Ok (record { value = ls; next = q }) → line_cards_at f p ≡ Ok (record { value = ls; next = q })
-  six-lines p q k ls e h = subst (λ k. row_from {S = Unit {0}} (λ _. tt) (λ _. line_record_at f) tt p k ≡ Ok (record { value = ls; next = q })) e h
+  six_lines : (p q k : ℕ) (ls : List LineRecord) → k ≡ 6 → row_from {S = Unit {0}} (λ _. tt) (λ _. line_record_at f) tt p k ≡ Ok (record { value = ls; next = q }) → line_cards_at f p ≡ Ok (record { value = ls; next = q })
+  six_lines p q k ls e h = subst (λ k. row_from {S = Unit {0}} (λ _. tt) (λ _. line_record_at f) tt p k ≡ Ok (record { value = ls; next = q })) e h
 
   file_chain : (p1 p2 p3 p4 p5 n m : ℕ) (ls : List LineRecord) (ss : List StateRecord) (ms : List Move)
       → count_at f 0 1 1 ≡ Ok (record { value = 1; next = p1 }) → line_cards_at f p1 ≡ Ok (record { value = ls; next = p2 })
@@ -306,13 +306,13 @@ module _ (f : List ℕ) (octets : Octets f) where
           (join f n.next states.next moves.next _ _ s4.2 (join f states.next m.next moves.next _ _ e5 e6)))) in (
             record {
               six = length-map lines.value (line_in f) ∙ s2.0;
-              lines-good = all_row GoodLine _ s2.1;
+              lines_good = all_row GoodLine _ s2.1;
               some = omega (arith, count, s3.0);
               few = omega (arith, count, s3.1);
-              states-good = all_row GoodState _ s4.1;
+              states_good = all_row GoodState _ s4.1;
               start = start_sound f states.value start;
-              few-moves = omega (arith, s6.0, s5.1);
-              moves-good = subst (λ k. AllByRecursion (GoodMove k) moves.value) (sym count) (moves_all n.value None moves.value g6);
+              few_moves = omega (arith, s6.0, s5.1);
+              moves_good = subst (λ k. AllByRecursion (GoodMove k) moves.value) (sym count) (moves_all n.value None moves.value g6);
               ascending = moves_ascend n.value moves.value g6;
             },
             closed f _ moves.next whole past,
@@ -329,13 +329,13 @@ module _ (f : List ℕ) (octets : Octets f) where
       let t4 = split f _ (length f) (flat_map encode_state r.states) _ t3.0.inside t3.1 in
       let t5 = split f _ (length f) (encode (length r.moves)) _ t4.0.inside t4.1 in
       let version = ranged_complete fault.Short fault.Number fault.Range f octets 0 1 1 1 _ (omega arith) (omega arith) (omega arith) (omega arith) t1.0 in
-      let lines = row_complete {S = Unit {0}} f (λ _. tt) (line_in f) (λ _. line_record_at f) encode_line (λ _. GoodLine) lines_complete r.lines tt _ _ t1.0.inside (row_all GoodLine r.lines g.lines-good) t2.0 in
+      let lines = row_complete {S = Unit {0}} f (λ _. tt) (line_in f) (λ _. line_record_at f) encode_line (λ _. GoodLine) lines_complete r.lines tt _ _ t1.0.inside (row_all GoodLine r.lines g.lines_good) t2.0 in
       let n = ranged_complete fault.Short fault.Number fault.Range f octets _ 1 32 (length r.states) _ (omega arith) g.some g.few t2.0.inside t3.0 in
-      let states = row_complete {S = Unit {0}} f (λ _. tt) (state_in f) (λ _. state_record_at f) encode_state (λ _. GoodState) states_complete r.states tt _ _ t3.0.inside (row_all GoodState r.states g.states-good) t4.0 in
-      let m = ranged_complete fault.Short fault.Number fault.Range f octets _ 0 1024 (length r.moves) _ (omega arith) (omega arith) g.few-moves t4.0.inside t5.0 in
+      let states = row_complete {S = Unit {0}} f (λ _. tt) (state_in f) (λ _. state_record_at f) encode_state (λ _. GoodState) states_complete r.states tt _ _ t3.0.inside (row_all GoodState r.states g.states_good) t4.0 in
+      let m = ranged_complete fault.Short fault.Number fault.Range f octets _ 0 1024 (length r.moves) _ (omega arith) (omega arith) g.few_moves t4.0.inside t5.0 in
       let moves = row_complete f Some (λ m. m) (next_move_at f (length r.states)) encode_move (GoodNext (length r.states)) (moves_complete (length r.states) g.few) r.moves None _ _ t5.0.inside
-      (row_moves (length r.states) r.moves g.moves-good g.ascending) t5.1 in
-      let six = six-lines _ _ (length r.lines) lines.0 g.six lines.1 in
+      (row_moves (length r.states) r.moves g.moves_good g.ascending) t5.1 in
+      let six = six_lines _ _ (length r.lines) lines.0 g.six lines.1 in
       let start = subst HasStart (sym states.2) g.start in
       let any = start_complete f states.0 start in (
         _,

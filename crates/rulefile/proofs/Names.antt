@@ -10,8 +10,8 @@ module _ (f : List ℕ) (p e : ℕ) (left : p < e) where
   name_step = let k : e - p ≡ suc (e - (p + 1)) = omega arith in rw k
 
   -- the file ends in the name
-  pub name-short : length f ≤ p → name_end f p (e - p) ≡ Err (fault.Short (length f))
-  name-short h = name_step ∙ cond-true _ _ _ (le-leb _ _ h)
+  pub name_short : length f ≤ p → name_end f p (e - p) ≡ Err (fault.Short (length f))
+  name_short h = name_step ∙ cond-true _ _ _ (le-leb _ _ h)
 
   -- a byte of the name is out of range
   pub name_byte : p < length f → is_name_byte (get_or f p 0) ≡ false → name_end f p (e - p) ≡ Err (fault.NameByte p)

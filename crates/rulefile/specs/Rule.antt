@@ -86,13 +86,13 @@ HasStart (s ∷ ss) = (s.state.start ≡ true) ⊎ HasStart ss
 -- six lines, 1 to 32 states with a start state among them, at most 1,024 moves, strictly ascending, all in their ranges
 pub record GoodRule (r : Rule) : Type 0 where
   pub six : length r.lines ≡ 6
-  pub lines-good : AllByRecursion GoodLine r.lines
+  pub lines_good : AllByRecursion GoodLine r.lines
   pub some : 1 ≤ length r.states
   pub few : length r.states ≤ 32
-  pub states-good : AllByRecursion GoodState r.states
+  pub states_good : AllByRecursion GoodState r.states
   pub start : HasStart r.states
-  pub few-moves : length r.moves ≤ 1024
-  pub moves-good : AllByRecursion (GoodMove (length r.states)) r.moves
+  pub few_moves : length r.moves ≤ 1024
+  pub moves_good : AllByRecursion (GoodMove (length r.states)) r.moves
   pub ascending : Ascending r.moves
 
 -- ---- records and the rule that they stand for
@@ -134,13 +134,13 @@ pub record Holds (f : List ℕ) (states : List StateRecord) (moves : List Move) 
 pub record Recorded (f : List ℕ) (states : List StateRecord) (moves : List Move) (n : Counts) : Type 0 where
   pub rule : Rule
   pub holds : Holds f states moves rule
-  pub states-counted : n.states ≡ length rule.states
-  pub moves-counted : n.moves ≡ length rule.moves
+  pub states_counted : n.states ≡ length rule.states
+  pub moves_counted : n.moves ≡ length rule.moves
 
 -- the lists have room, and the file is the bytes of a rule in range
 pub record Readable (f : List ℕ) (stateRoom moveRoom : ℕ) : Type 0 where
-  pub state-room : 32 ≤ stateRoom
-  pub move-room : 1024 ≤ moveRoom
+  pub state_room : 32 ≤ stateRoom
+  pub move_room : 1024 ≤ moveRoom
   pub rule : Rule
   pub good : GoodRule rule
   pub bytes : f ≡ encode_rule rule

@@ -109,15 +109,15 @@ module _ (f : List ℕ) (octets : Octets f) where
   unfolding HasFault
   left_end p b fault h l = ok_not_err [] fault (pairs_from f p) (pairs_end f p b) h
 
-  left-within : (k p : ℕ) → length f ≤ p + k → HasFault p
-  left-within zero p b = left_end p (omega arith)
-  left-within (suc k) p b =
-      ⊎_elim (λ l. left_step p l (λ q m. left-within k q (omega arith))) (λ l. left_end p l) (cases_lt p (length f))
+  left_within : (k p : ℕ) → length f ≤ p + k → HasFault p
+  left_within zero p b = left_end p (omega arith)
+  left_within (suc k) p b =
+      ⊎_elim (λ l. left_step p l (λ q m. left_within k q (omega arith))) (λ l. left_end p l) (cases_lt p (length f))
 
   -- ---- of the whole log
 
-  whole-bytes : (bytes : List ℕ) → Spans f 0 bytes (length f) → f ≡ bytes
-  whole-bytes bytes s = let none = drop_all (length f) f (omega arith) in s.are ∙ ap (λ (rest : List ℕ). bytes ++ rest) none ∙ append-nil bytes
+  whole_bytes : (bytes : List ℕ) → Spans f 0 bytes (length f) → f ≡ bytes
+  whole_bytes bytes s = let none = drop_all (length f) f (omega arith) in s.are ∙ ap (λ (rest : List ℕ). bytes ++ rest) none ∙ append-nil bytes
 
   bytes_whole : (bytes : List ℕ) → f ≡ bytes → Spans f 0 bytes (length f)
   bytes_whole bytes e =
@@ -127,7 +127,7 @@ module _ (f : List ℕ) (octets : Octets f) where
   -- what is read of a whole log
   pub log_sound : (pairs : List Pair) → pairs_from f 0 ≡ Ok pairs → AllByRecursion InRange pairs × (f ≡ encode_pairs pairs)
   unfolding Reads
-  log_sound pairs h = let s = pairs_sound_within (length f) 0 (omega arith) pairs h (omega arith) in (s.0, whole-bytes (encode_pairs pairs) s.1)
+  log_sound pairs h = let s = pairs_sound_within (length f) 0 (omega arith) pairs h (omega arith) in (s.0, whole_bytes (encode_pairs pairs) s.1)
 
   pub log_complete : (pairs : List Pair) → AllByRecursion InRange pairs → f ≡ encode_pairs pairs → pairs_from f 0 ≡ Ok pairs
   log_complete pairs r e = pairs_complete pairs 0 r (omega arith) (bytes_whole (encode_pairs pairs) e)
@@ -135,7 +135,7 @@ module _ (f : List ℕ) (octets : Octets f) where
   pub log_left : (fault : CardFault) → pairs_from f 0 ≡ Err fault → LeftmostFault f fault
   unfolding HasFault
   log_left fault h =
-      let x = left-within (length f) 0 (omega arith) fault h (omega arith) in
+      let x = left_within (length f) 0 (omega arith) fault h (omega arith) in
       let q : x.1 ≡ length (encode_pairs x.0) = span_end f 0 x.1 (encode_pairs x.0) (omega arith) x.3 ∙ zero-add _ in
       let some : 0 < length (drop x.1 f) = simp length-drop (omega (arith, x.4)) in
       (x.0, drop x.1 f, x.2, x.3.are, some, subst (λ (n : ℕ). pair_at f n ≡ Err fault) q x.5)

@@ -3,7 +3,7 @@ use Rattle.std.proofs.Common.{◌≡◌, ℕ, ◌+◌, ◌^◌, ◌<◌, Bool, t
 use lib.Bits.{bit_or, or_comm}
 use Rattle.std.proofs.lemmas.Bool.{lt-ltb}
 use Rattle.events.specs.Sets.{has, set_of}
-use Rattle.events.proofs.SetLaws.{has-set_of, set_of-small, same_mask}
+use Rattle.events.proofs.SetLaws.{has-set_of, set_of_small, same_mask}
 use Rattle.sources.specs.declared.source.SourceRefusal.{SourceRefusal}
 use Rattle.sources.specs.declared.source.SourceRefusal.TheVariants.{NothingWaiting}
 use Rattle.sources.specs.Waiting.{AllEvents, first_of, any_waiting, polled, or_nothing}
@@ -24,8 +24,8 @@ polled-line (Some event) line on l h =
     let f : ◌≡◌ {A = Result Bool SourceRefusal} (Ok on) (Ok (has event line)) = rw a at h in
     (event, refl, cc)
 
-pub polled-some : (first : Option ℕ) (line : ℕ) (on : Bool) → line < 6 → Ok on ≡ polled first line → is_some first ≡ true
-polled-some first line on l h = ap is_some (polled-line first line on l h).1
+pub polled_some : (first : Option ℕ) (line : ℕ) (on : Bool) → line < 6 → Ok on ≡ polled first line → is_some first ≡ true
+polled_some first line on l h = ap is_some (polled-line first line on l h).1
 
 set_of_on : (n : ℕ) (f : ℕ → Bool) → f n ≡ true → set_of (n + 1) f ≡ bit_or (2 ^ n) (set_of n f)
 unfolding set_of
@@ -60,4 +60,4 @@ none_yet (Some event) = refl
 -- all six
 pub all_lines_lem : (events : List ℕ) (event : ℕ) → AllEvents events → event ≡ lines_below (first_of events) 6 → any_waiting events ≡ true → Ok event ≡ or_nothing (first_of events)
 all_lines_lem [] event s e w = let z : ◌≡◌ {A = ℕ} 0 1 = cc in absurd (omega arith)
-all_lines_lem (x ∷ later) event s e w = ap Ok (e ∙ same_mask 6 _ x (set_of-small 6 (has x)) s.0 (λ k l. has-set_of 6 (has x) k l))
+all_lines_lem (x ∷ later) event s e w = ap Ok (e ∙ same_mask 6 _ x (set_of_small 6 (has x)) s.0 (λ k l. has-set_of 6 (has x) k l))

@@ -23,27 +23,27 @@ pub none_here : (bytes : List ℕ) (p : ℕ) → length bytes ≤ p → log_from
 unfolding log_from
 none_here bytes p h = let d = drop_all p bytes h in rw d
 
-taken-events : (p : ℕ) (bytes : List ℕ) → is_ok (log_from p bytes) ≡ true → AllEvents bytes
+taken_events : (p : ℕ) (bytes : List ℕ) → is_ok (log_from p bytes) ≡ true → AllEvents bytes
 unfolding log_from
-taken-events p [] h = tt
-taken-events p (byte ∷ bytes) h = go (ltb byte 64) refl h (taken-events (p + 1) bytes)
+taken_events p [] h = tt
+taken_events p (byte ∷ bytes) h = go (ltb byte 64) refl h (taken_events (p + 1) bytes)
   where
     go : (b : Bool) → ltb byte 64 ≡ b → is_ok (cond b (log_from (p + 1) bytes) (Err (Range p))) ≡ true → (is_ok (log_from (p + 1) bytes) ≡ true → AllEvents bytes) → AllEvents (byte ∷ bytes)
     go true e t rest = (ltb-true byte 64 e, rest t)
     go false e t rest = absurd (both_ways false refl t)
 
-events-taken : (p : ℕ) (bytes : List ℕ) → AllEvents bytes → is_ok (log_from p bytes) ≡ true
+events_taken : (p : ℕ) (bytes : List ℕ) → AllEvents bytes → is_ok (log_from p bytes) ≡ true
 unfolding log_from
-events-taken p [] h = refl
-events-taken p (byte ∷ bytes) h = let e = lt-ltb byte 64 h.0 in rw e (events-taken (p + 1) bytes h.1)
+events_taken p [] h = refl
+events_taken p (byte ∷ bytes) h = let e = lt-ltb byte 64 h.0 in rw e (events_taken (p + 1) bytes h.1)
 
 -- a plain log is taken exactly where each byte is an event
 pub log_exact : (bytes : List ℕ) → Decides (is_ok (log_from 0 bytes)) (AllEvents bytes)
-log_exact bytes = (taken-events 0 bytes, events-taken 0 bytes)
+log_exact bytes = (taken_events 0 bytes, events_taken 0 bytes)
 
 pub log_exact_at : (bytes : List ℕ) (r : Result (Unit {0}) CardFault) → r ≡ log_from 0 bytes → Decides (is_ok r) (AllEvents bytes)
 log_exact_at bytes r e = rw e (log_exact bytes)
 
 -- each byte of a log that is taken
-pub taken-get_or : (bytes : List ℕ) → AllEvents bytes → (k : ℕ) → k < length bytes → get_or bytes k 0 < 64
-taken-get_or bytes h k l = All-get_or (λ byte. byte < 64) bytes k 0 l h
+pub taken_get_or : (bytes : List ℕ) → AllEvents bytes → (k : ℕ) → k < length bytes → get_or bytes k 0 < 64
+taken_get_or bytes h k l = All-get_or (λ byte. byte < 64) bytes k 0 l h

@@ -78,8 +78,8 @@ module _ (f : List ℕ) (run : Run) (sound : Playable f run) where
   pub later_none : run.left ≡ 0 → played_from f run ≡ later_of (played_from f run)
   later_none z = none_left z ∙ ap later_of (sym (none_left z))
 
-  pub first-left : 0 < run.left → Some run.current ≡ first_of (played_from f run)
-  first-left h = first_some run.left run.current _ h
+  pub first_left : 0 < run.left → Some run.current ≡ first_of (played_from f run)
+  first_left h = first_some run.left run.current _ h
 
   pub after_sound : Playable f (run_after f run)
   after_sound =

@@ -3,7 +3,7 @@ use Rattle.std.proofs.Common.{◌≡◌, ℕ, zero, suc, ◌+◌, ◌<◌, ◌�
 use Rattle.std.proofs.lemmas.List.{drop_more, drop_all, get_or-map, length-map}
 use Rattle.std.proofs.lemmas.Bool.{lt-ltb, ltb-true, and_from, and_parts}
 use Rattle.events.specs.Sets.{has}
-use Rattle.events.proofs.SetLaws.{has_none, has-set_of, set_of-small, same_mask}
+use Rattle.events.proofs.SetLaws.{has_none, has-set_of, set_of_small, same_mask}
 use Rattle.sources.specs.declared.source.SourceRefusal.{SourceRefusal}
 use Rattle.sources.specs.declared.source.SourceRefusal.TheVariants.{NothingWaiting}
 use Rattle.sources.specs.declared.wiring.WiringRefusal.{WiringRefusal}
@@ -19,7 +19,7 @@ rewired-line entries turned event line h = has-set_of 6 _ line h
 
 pub rewired_lt : (entries : List ℕ) (turned event : ℕ) → rewired entries turned event < 64
 unfolding rewired
-rewired_lt entries turned event = set_of-small 6 _
+rewired_lt entries turned event = set_of_small 6 _
 
 -- a poll below, and the poll above
 pub poll_through : (entries : List ℕ) (turned : ℕ) (events : List ℕ) (line : ℕ) (on turn shown : Bool) → get_or entries line 0 < 6 → line < 6
@@ -47,20 +47,20 @@ other_here entries k h e = let d = drop_more entries k 0 h in rw (d, e)
 pub none_here : (entries : List ℕ) (k : ℕ) → length entries ≤ k → all_lines (drop k entries) ≡ true
 none_here entries k h = let d = drop_all k entries h in rw d
 
-lines-named : (entries : List ℕ) → all_lines entries ≡ true → (k : ℕ) → k < length entries → get_or entries k 0 < 6
-lines-named [] h k l = absurd (omega arith)
-lines-named (entry ∷ entries) h zero l = ltb-true entry 6 (and_parts (ltb entry 6) (all_lines entries) h).0
-lines-named (entry ∷ entries) h (suc k) l = lines-named entries (and_parts (ltb entry 6) (all_lines entries) h).1 k (omega arith)
+lines_named : (entries : List ℕ) → all_lines entries ≡ true → (k : ℕ) → k < length entries → get_or entries k 0 < 6
+lines_named [] h k l = absurd (omega arith)
+lines_named (entry ∷ entries) h zero l = ltb-true entry 6 (and_parts (ltb entry 6) (all_lines entries) h).0
+lines_named (entry ∷ entries) h (suc k) l = lines_named entries (and_parts (ltb entry 6) (all_lines entries) h).1 k (omega arith)
 
-named-lines : (entries : List ℕ) → ((k : ℕ) → k < length entries → get_or entries k 0 < 6) → all_lines entries ≡ true
-named-lines [] h = refl
-named-lines (entry ∷ entries) h =
-    and_from (ltb entry 6) (all_lines entries) (lt-ltb entry 6 (h 0 (omega arith))) (named-lines entries (λ k l. h (suc k) (omega arith)))
+named_lines : (entries : List ℕ) → ((k : ℕ) → k < length entries → get_or entries k 0 < 6) → all_lines entries ≡ true
+named_lines [] h = refl
+named_lines (entry ∷ entries) h =
+    and_from (ltb entry 6) (all_lines entries) (lt-ltb entry 6 (h 0 (omega arith))) (named_lines entries (λ k l. h (suc k) (omega arith)))
 
 fits_is : (entries : List ℕ) (turned : ℕ) → length entries ≡ 6 → Decides (wiring_fits entries turned) (IsWiring entries turned)
 fits_is entries turned six = (
-  (λ h. let p = and_parts (all_lines entries) (ltb turned 64) h in record { six = six; named = λ k l. lines-named entries p.0 k (omega arith); lines = ltb-true turned 64 p.1 }),
-  (λ f. and_from (all_lines entries) (ltb turned 64) (named-lines entries (λ k l. f.named k (omega arith))) (lt-ltb turned 64 f.lines)),
+  (λ h. let p = and_parts (all_lines entries) (ltb turned 64) h in record { six = six; named = λ k l. lines_named entries p.0 k (omega arith); lines = ltb-true turned 64 p.1 }),
+  (λ f. and_from (all_lines entries) (ltb turned 64) (named_lines entries (λ k l. f.named k (omega arith))) (lt-ltb turned 64 f.lines)),
 )
 
 abbrev told : Bool → Result (Unit {0}) WiringRefusal
@@ -110,8 +110,8 @@ straight_is (suc (suc (suc (suc zero)))) h = refl
 straight_is (suc (suc (suc (suc (suc zero))))) h = refl
 straight_is (suc (suc (suc (suc (suc (suc k)))))) h = absurd (omega arith)
 
-pub straight-named : (k : ℕ) → k < 6 → get_or straight k 0 < 6
-straight-named k h = let e = straight_is k h in rw e h
+pub straight_named : (k : ℕ) → k < 6 → get_or straight k 0 < 6
+straight_named k h = let e = straight_is k h in rw e h
 
 straight_line : (turned event k : ℕ) → k < 6 → has (rewired straight turned event) k ≡ turned_by (has event k) (has turned k)
 straight_line turned event k h = rewired-line straight turned event k h ∙ ap (λ (i : ℕ). turned_by (has event i) (has turned k)) (straight_is k h)
@@ -144,9 +144,9 @@ compose_event upper t lower u event six named =
 
 -- ---- the same of lists
 
-pub straight-events : (events : List ℕ) → AllEvents events → rewired_all straight 0 events ≡ events
-straight-events [] h = refl
-straight-events (event ∷ later) h = ap₂ ◌∷◌ (straight_event event h.0) (straight-events later h.1)
+pub straight_events : (events : List ℕ) → AllEvents events → rewired_all straight 0 events ≡ events
+straight_events [] h = refl
+straight_events (event ∷ later) h = ap₂ ◌∷◌ (straight_event event h.0) (straight_events later h.1)
 
 pub cancel_events : (turned : ℕ) (events : List ℕ) → AllEvents events → rewired_all straight turned (rewired_all straight turned events) ≡ events
 cancel_events turned [] h = refl
@@ -180,4 +180,4 @@ module _ (entries : List ℕ) (turned : ℕ) (events : List ℕ) where
 
   pub refused_means : (e : WiringRefusal) → Err e ≡ checked_wiring entries turned → AllEvents events
       → rewired_all straight 0 events ≡ wired_events entries turned events
-  refused_means e h small = let f = unfit_from e h in straight-events events small ∙ rw f
+  refused_means e h small = let f = unfit_from e h in straight_events events small ∙ rw f

@@ -14,7 +14,7 @@ use Rattle.codec.specs.Steps.{and_then}
 use Rattle.codec.proofs.Steps.{inside_ok, then_ok, else_ok}
 use Rattle.sources.specs.declared.change.Pair.{Pair}
 use Rattle.sources.specs.declared.change.Run.{Run}
-use Rattle.events.proofs.SetLaws.{set_of-small}
+use Rattle.events.proofs.SetLaws.{set_of_small}
 use Rattle.sources.specs.Wirings.{rewired, rewired_all}
 use Rattle.sources.specs.Waiting.{AllEvents}
 use Rattle.sources.specs.ChangeLogs.{expand, pair_at, pairs_within, pairs_from, pairs_or, played_from}
@@ -81,21 +81,21 @@ same_small : (n event : ℕ) → event < 64 → AllEvents (replicate n event)
 same_small zero event h = tt
 same_small (suc n) event h = (h, same_small n event h)
 
-expand-small : (pairs : List Pair) (event : ℕ) → event < 64 → Flips pairs → AllEvents (expand event pairs)
-expand-small [] event h t = tt
-expand-small (pair ∷ pairs) event h t =
+expand_small : (pairs : List Pair) (event : ℕ) → event < 64 → Flips pairs → AllEvents (expand event pairs)
+expand_small [] event h t = tt
+expand_small (pair ∷ pairs) event h t =
     let next : bit_xor event pair.flips < 64 = xor_lt 6 event pair.flips h t.0 in
-    All-append (λ e. e < 64) _ _ (same_small pair.count _ next) (expand-small pairs (bit_xor event pair.flips) next t.1)
+    All-append (λ e. e < 64) _ _ (same_small pair.count _ next) (expand_small pairs (bit_xor event pair.flips) next t.1)
 
 -- what is left of a change log
 pub change_small : (f : List ℕ) (run : Run) → run.current < 64 → AllEvents (played_from f run)
 change_small f run h =
     All-append (λ e. e < 64) _ _ (same_small run.left run.current h)
-    (expand-small (pairs_or (pairs_from f run.next)) run.current h (pairs_small (length f) f run.next))
+    (expand_small (pairs_or (pairs_from f run.next)) run.current h (pairs_small (length f) f run.next))
 
 -- ---- a wiring
 
-pub rewired-small : (entries : List ℕ) (turned : ℕ) (events : List ℕ) → AllEvents (rewired_all entries turned events)
+pub rewired_small : (entries : List ℕ) (turned : ℕ) (events : List ℕ) → AllEvents (rewired_all entries turned events)
 unfolding rewired
-rewired-small entries turned [] = tt
-rewired-small entries turned (event ∷ later) = (set_of-small 6 _, rewired-small entries turned later)
+rewired_small entries turned [] = tt
+rewired_small entries turned (event ∷ later) = (set_of_small 6 _, rewired_small entries turned later)

@@ -1,6 +1,6 @@
 // A wiring over any source: each line is one of the lines below, turned over or not.
 ghost use Rattle.std.specs.Prelude.{◌≡◌, ℕ, ◌<◌, is_ok, Decides, nat_lt, slice_index};
-ghost use Rattle.sources.specs.Small.{rewired-small};
+ghost use Rattle.sources.specs.Small.{rewired_small};
 ghost use Rattle.sources.specs.Wirings.{IsWiring, all_lines, checked_wiring, rewired_all, turned_by, wired_events, wiring_fits, wiring_number};
 
 use crate::source::{LINES, LineSource, SourceRefusal, is_on};
@@ -113,7 +113,7 @@ impl<S: LineSource> Wiring<S> {
 impl<S: LineSource> LineSource for Wiring<S> {
     ghost events = { λ s. rewired_all s.entries s.turned (S.LineSource.events s.below) };
 
-    ghost small = { λ s. rewired-small s.entries s.turned (S.LineSource.events s.below) };
+    ghost small = { λ s. rewired_small s.entries s.turned (S.LineSource.events s.below) };
 
     fn waiting(&self) -> bool {
         self.below.waiting()

@@ -1,7 +1,7 @@
 -- A plan newly armed stands after no event, and holds states of its rule.
 use Rattle.std.proofs.Common.{◌≡◌, ℕ, ◌^◌, ◌<◌, true, ◌↔◌, length, sym, ap, ◌∙◌, subst, arith, pow_mono}
 use Rattle.events.specs.Sets.{has, ◌∈◌}
-use Rattle.events.proofs.SetLaws.{set_of-small}
+use Rattle.events.proofs.SetLaws.{set_of_small}
 use Rattle.rules.specs.declared.Snapshot.{Snapshot}
 use Rattle.rules.specs.automata.Rules.{Starts, WellFormed}
 use Rattle.rules.specs.automata.Runs.{Live, Safe}
@@ -23,8 +23,8 @@ module _ (plan : Plan) where
   well : WellFormed (plan_rule plan)
   well = draft_well plan.draft
 
-  live-there : (q : ℕ) → (q ∈ plan.live) ↔ Live (plan_rule plan) q
-  live-there q = subst (λ (n : ℕ). (q ∈ n) ↔ Live (plan_rule plan) q) (sym plan.live_is) (live_right (plan_rule plan) well q)
+  live_there : (q : ℕ) → (q ∈ plan.live) ↔ Live (plan_rule plan) q
+  live_there q = subst (λ (n : ℕ). (q ∈ n) ↔ Live (plan_rule plan) q) (sym plan.live_is) (live_right (plan_rule plan) well q)
 
   safe_there : (q : ℕ) → (q ∈ plan.safe) ↔ Safe (plan_rule plan) q
   safe_there q = subst (λ (n : ℕ). (q ∈ n) ↔ Safe (plan_rule plan) q) (sym plan.safe_is) (safe_right (plan_rule plan) well q)
@@ -34,14 +34,14 @@ module _ (plan : Plan) where
 
   start_small : start_states (plan_rule plan).states < 2 ^ 32
   unfolding start_states
-  start_small = omega (arith, set_of-small (length (plan_rule plan).states) (λ q. (lib.ListN.get_or (plan_rule plan).states q (record { start = mathlib.Core.Bool.false; accepting = mathlib.Core.Bool.false })).start), pow_mono well.few-states)
+  start_small = omega (arith, set_of_small (length (plan_rule plan).states) (λ q. (lib.ListN.get_or (plan_rule plan).states q (record { start = mathlib.Core.Bool.false; accepting = mathlib.Core.Bool.false })).start), pow_mono well.few_states)
 
   -- the plan's own sets
   abbrev plan_sets : Sets
   plan_sets = record { live = plan.live; safe = plan.safe; starts = plan.starts; release = plan.release }
 
   plan_begun : Begun (plan_rule plan) (start_by plan_sets)
-  plan_begun = begun (plan_rule plan) well plan.live plan.safe plan.starts plan.release live-there safe_there starts_there
+  plan_begun = begun (plan_rule plan) well plan.live plan.safe plan.starts plan.release live_there safe_there starts_there
       (subst (λ (n : ℕ). n < 2 ^ 32) (sym plan.starts_are) start_small) (plan_release plan)
 
   module _ (sets : Sets) (live_is : sets.live ≡ plan.live) (safe_is : sets.safe ≡ plan.safe) (starts_are : sets.starts ≡ plan.starts) (release_is : sets.release ≡ plan.release)
@@ -52,17 +52,17 @@ module _ (plan : Plan) where
     held_there : held ≡ start_by plan_sets
     held_there = held-is ∙ ap start_by same
 
-    pub armed-there : (s : Snapshot) → s ≡ begun_with sets.release held → ArmedOn plan s
-    armed-there s is =
+    pub armed_there : (s : Snapshot) → s ≡ begun_with sets.release held → ArmedOn plan s
+    armed_there s is =
         let (raw, start, settled) = plan_begun in
         subst (ArmedOn plan) (sym (is ∙ ap (λ (r : ℕ). begun_with r held) release_is))
         (after_armed (plan_rule plan) (plan_trees plan) raw held (reads_by plan.release 0 held) start
         (subst (Rattle.rules.specs.watch.Holding.Settled (plan_rule plan) raw) (sym held_there) settled)
         (reads_by_lem (plan_rule plan) plan.release (plan_release plan) 0 held))
 
-    pub armed-within : (s : Snapshot) → s ≡ begun_with sets.release held → (q : ℕ) → has s.held q ≡ true → q < length (plan_rule plan).states
-    armed-within s is = subst (λ (h : ℕ). (q : ℕ) → has h q ≡ true → q < length (plan_rule plan).states) (sym (ap (λ (t : Snapshot). t.held) is ∙ held_there))
+    pub armed_within : (s : Snapshot) → s ≡ begun_with sets.release held → (q : ℕ) → has s.held q ≡ true → q < length (plan_rule plan).states
+    armed_within s is = subst (λ (h : ℕ). (q : ℕ) → has h q ≡ true → q < length (plan_rule plan).states) (sym (ap (λ (t : Snapshot). t.held) is ∙ held_there))
         (lives_within plan (start_by plan_sets)
-        (begun_lives (plan_rule plan) well plan.live plan.safe plan.starts plan.release live-there safe_there starts_there
+        (begun_lives (plan_rule plan) well plan.live plan.safe plan.starts plan.release live_there safe_there starts_there
         (subst (λ (n : ℕ). n < 2 ^ 32) (sym plan.starts_are) start_small) (plan_release plan)
         (release_lives (plan_rule plan) plan.release (plan_release plan))))

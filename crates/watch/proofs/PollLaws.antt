@@ -47,10 +47,10 @@ and-line true z h = refl
 and-line false true h = h refl
 and-line false false h = refl
 
-and-no_line : (x z : Bool) → (z ≡ true → x ≡ false) → (x && z) ≡ false
-and-no_line true true h = h refl
-and-no_line true false h = refl
-and-no_line false z h = refl
+and_no_line : (x z : Bool) → (z ≡ true → x ≡ false) → (x && z) ≡ false
+and_no_line true true h = h refl
+and_no_line true false h = refl
+and_no_line false z h = refl
 
 or_false : (x : Bool) → (x || false) ≡ x
 or_false true = refl
@@ -95,7 +95,7 @@ seen_off e p p' on line known asks b q t =
     known
     ∙ sym (bits_same _ _ (λ k.
     known_more e p line k
-    ∙ ap (λ (x : Bool). (has e k && has p k) || x) (and-no_line (has e k) (has (2 ^ line) k) (the_line e line k false h))
+    ∙ ap (λ (x : Bool). (has e k && has p k) || x) (and_no_line (has e k) (has (2 ^ line) k) (the_line e line k false h))
     ∙ or_false (has e k && has p k) ∙ sym (has-and e p k)))
     ∙ ap (bit_and e) (sym asks)
 
@@ -191,11 +191,11 @@ more : (p p' line q r s : ℕ) → p' ≡ bit_or p (2 ^ line) → q ≡ bit_or (
 more p p' line q r s a b h = ap (λ (x : ℕ). bit_or x r) a ∙ or_assoc p (2 ^ line) r ∙ ap (bit_or p) (sym b) ∙ h
 
 module _ (nodes : List Node) (e top before place p k : ℕ) (way : Way nodes e top before place p k) where
-  pub leaf-set : (set : ℕ) → tree_at 7 nodes place ≡ leaf set → set ≡ gives (tree_at 7 nodes top) e
-  leaf-set set t = sym (ap (λ (x : Tree). gives x e) t) ∙ way.set
+  pub leaf_set : (set : ℕ) → tree_at 7 nodes place ≡ leaf set → set ≡ gives (tree_at 7 nodes top) e
+  leaf_set set t = sym (ap (λ (x : Tree). gives x e) t) ∙ way.set
 
-  pub leaf-lines : (set : ℕ) → tree_at 7 nodes place ≡ leaf set → p ≡ bit_or before (polls (tree_at 7 nodes top) e)
-  leaf-lines set t = sym (or_zero_r p) ∙ ap (bit_or p) (sym (ap (λ (x : Tree). polls x e) t)) ∙ way.lines
+  pub leaf_lines : (set : ℕ) → tree_at 7 nodes place ≡ leaf set → p ≡ bit_or before (polls (tree_at 7 nodes top) e)
+  leaf_lines set t = sym (or_zero_r p) ∙ ap (bit_or p) (sym (ap (λ (x : Tree). polls x e) t)) ∙ way.lines
 
   module _ (line on off p' k' : ℕ) (f : Forked nodes place line on off) (asks : p' ≡ bit_or p (2 ^ line)) (known : k' ≡ bit_and e p')
       (b : Bool) (answer : b ≡ has e line) where
@@ -232,5 +232,5 @@ module _ (plan : Plan) (nodes : List Node) (q top : ℕ) (nodes_are : nodes ≡ 
   pub top_set : (e s set : ℕ) → set ≡ gives (tree_at 7 nodes top) e → bit_or s set ≡ bit_or s (gives (tree_of (plan_trees plan) q) e)
   top_set e s set h = ap (bit_or s) (h ∙ ap (λ (x : Tree). gives x e) at_top)
 
-  pub top-lines : (e p p' : ℕ) → p' ≡ bit_or p (polls (tree_at 7 nodes top) e) → p' ≡ bit_or p (polls (tree_of (plan_trees plan) q) e)
-  top-lines e p p' h = h ∙ ap (λ (x : Tree). bit_or p (polls x e)) at_top
+  pub top_lines : (e p p' : ℕ) → p' ≡ bit_or p (polls (tree_at 7 nodes top) e) → p' ≡ bit_or p (polls (tree_of (plan_trees plan) q) e)
+  top_lines e p p' h = h ∙ ap (λ (x : Tree). bit_or p (polls x e)) at_top

@@ -39,8 +39,8 @@ calls_more plan p calls coming answers k s s' left left' c a d lc la same so_far
     }
 
 -- what is not written yet stays
-pub rest-kept : (answers before : List Answer) (k : ℕ) (a : Answer) → drop k answers ≡ drop k before → drop (k + 1) (set answers k a) ≡ drop (k + 1) before
-rest-kept answers before k a h = drop-set-lt (k + 1) answers k a (omega arith) ∙ sym (drop-drop 1 k answers) ∙ ap (drop 1) h ∙ drop-drop 1 k before
+pub rest_kept : (answers before : List Answer) (k : ℕ) (a : Answer) → drop k answers ≡ drop k before → drop (k + 1) (set answers k a) ≡ drop (k + 1) before
+rest_kept answers before k a h = drop-set-lt (k + 1) answers k a (omega arith) ∙ sym (drop-drop 1 k answers) ∙ ap (drop 1) h ∙ drop-drop 1 k before
 
 -- ---- the whole promise
 

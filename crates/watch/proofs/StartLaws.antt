@@ -5,7 +5,7 @@ use lib.Dec.{not_T}
 use Rattle.std.proofs.lemmas.Nat.{or_lt, pow_below}
 use Rattle.std.proofs.lemmas.Bool.{eqb-true, eqb-false}
 use Rattle.events.specs.Sets.{has, ◌∈◌, set_of}
-use Rattle.events.proofs.SetLaws.{T_and, ∈-or, ∈-and, ∈_one, ∈_one_is, ∈-set_of, set_of-small, ∈_some_in, ∈_none_in}
+use Rattle.events.proofs.SetLaws.{T_and, ∈-or, ∈-and, ∈_one, ∈_one_is, ∈-set_of, set_of_small, ∈_some_in, ∈_none_in}
 use Rattle.rules.specs.automata.Rules.{Rule, Starts, WellFormed}
 use Rattle.rules.specs.automata.Runs.{Live, Safe}
 use Rattle.rules.specs.automata.Pruning.{Release, StandsFor}
@@ -27,10 +27,10 @@ module _ (rule : Rule) (well : WellFormed rule) (live safe starts release : ℕ)
     unsafe s st sf = ∈_none_in starts safe s none ((starts_are s).1 st) ((safe_is s).1 sf)
 
     begun_open : Begun rule (bit_and starts live)
-    begun_open = (bit_and starts live, record { small = and-small; members = λ t. (fwd t, (λ (s, st, stands). bwd t s st stands)) }, inr ((λ r rel h. no_release r rel h), refl))
+    begun_open = (bit_and starts live, record { small = and_small; members = λ t. (fwd t, (λ (s, st, stands). bwd t s st stands)) }, inr ((λ r rel h. no_release r rel h), refl))
       where
-        and-small : bit_and starts live < 2 ^ 32
-        and-small = omega (arith, lib.Bits.and_le_l starts live)
+        and_small : bit_and starts live < 2 ^ 32
+        and_small = omega (arith, lib.Bits.and_le_l starts live)
 
         fwd : (t : ℕ) → t ∈ bit_and starts live → (s : ℕ) × Starts rule s × StandsFor rule s t
         fwd t h =
@@ -59,7 +59,7 @@ module _ (rule : Rule) (well : WellFormed rule) (live safe starts release : ℕ)
     begun_at r rel e = (
       bit_or (set_of 32 tested) release,
       record {
-        small = or_lt 32 (set_of 32 tested) release (set_of-small 32 tested) (subst (λ (n : ℕ). n < 2 ^ 32) (sym e) (pow_below r 32 (safe_below rule r rel.0)));
+        small = or_lt 32 (set_of 32 tested) release (set_of_small 32 tested) (subst (λ (n : ℕ). n < 2 ^ 32) (sym e) (pow_below r 32 (safe_below rule r rel.0)));
         members = λ t. (fwd t, (λ (s, st, stands). bwd t s st stands));
       },
       inl (r, rel, (∈-or r (set_of 32 tested) release).1 (inr (is_release r rel)), e),

@@ -14,7 +14,7 @@ use Rattle.rules.specs.watch.Verdicts.{word_of}
 use Rattle.rules.specs.watch.Holding.{tree_of, leads_to, Sound, Settled, ReleaseSet, Reads, Next}
 use Rattle.rules.proofs.automata.RunLaws.{safe_live}
 use Rattle.rules.proofs.automata.RuleLaws.{live_below}
-use Rattle.rules.proofs.watch.PromiseLaws.{settled_open, settled-released, reads_breach, reads_clear, reads_open}
+use Rattle.rules.proofs.watch.PromiseLaws.{settled_open, settled_released, reads_breach, reads_clear, reads_open}
 use Rattle.pruning.proofs.DraftLaws.{draft_well}
 use Rattle.fitting.specs.declared.plan.Plan.{Plan}
 use Rattle.fitting.specs.Plans.{plan_rule, plan_trees}
@@ -29,7 +29,7 @@ module _ (rule : Rule) (release : ℕ) (is : ReleaseSet rule release) where
     where
       go : (b : Bool) → eqb (bit_and raw release) 0 ≡ b → Settled rule raw (cond b raw release)
       go true e = settled_open rule release is raw (eqb-true (bit_and raw release) 0 e)
-      go false e = settled-released rule release is raw (eqb-false (bit_and raw release) 0 e)
+      go false e = settled_released rule release is raw (eqb-false (bit_and raw release) 0 e)
 
   pub reads_by_lem : (count set : ℕ) → Reads rule count set (reads_by release count set)
   reads_by_lem count set = go (eqb set 0) refl
@@ -79,8 +79,8 @@ pruned_live rule q e t (inl (live, unsafe, (r, step, (l, inl (u, p))))) = subst 
 pruned_live rule q e t (inl (live, unsafe, (r, step, (l, inr (s, rel))))) = safe_live rule t rel.0
 pruned_live rule q e t (inr (rel, p)) = subst (Live rule) (sym p) (safe_live rule q rel.0)
 
-leads-live : (rule : Rule) (trees : List Tree) (held e t : ℕ) → Sound rule trees → e < 64 → t ∈ leads_to trees held e → Live rule t
-leads-live rule trees held e t sound low h =
+leads_live : (rule : Rule) (trees : List Tree) (held e t : ℕ) → Sound rule trees → e < 64 → t ∈ leads_to trees held e → Live rule t
+leads_live rule trees held e t sound low h =
     let (q, l, there, m) = (∈_union 32 held (λ q. gives (tree_of trees q) e) t).0 h in
     pruned_live rule q e t (((sound.serves q l e low).members t).0 m)
 
@@ -99,5 +99,5 @@ module _ (plan : Plan) where
   led_within held e low = lives_within (settled_by plan.release (leads_to (plan_trees plan) held e)) (go (eqb (bit_and (leads_to (plan_trees plan) held e) plan.release) 0))
     where
       go : (b : Bool) → (q : ℕ) → q ∈ cond b (leads_to (plan_trees plan) held e) plan.release → Live (plan_rule plan) q
-      go true q h = leads-live (plan_rule plan) (plan_trees plan) held e q (plan_sound plan) low h
+      go true q h = leads_live (plan_rule plan) (plan_trees plan) held e q (plan_sound plan) low h
       go false q h = release_lives (plan_rule plan) plan.release plan_release q h

@@ -36,9 +36,9 @@ none_waits [] h = refl
 none_waits (e ∷ later) h = absurd (let z : ◌≡◌ {A = ℕ} 1 0 = cc in suc-ne-zero 0 z)
 
 -- what is held after a take are states of the rule
-pub taken-within : (plan : Plan) (held e raw release next : ℕ) → e < 64 → release ≡ plan.release → raw ≡ leads_to (plan_trees plan) held e → next ≡ settled_by release raw
+pub taken_within : (plan : Plan) (held e raw release next : ℕ) → e < 64 → release ≡ plan.release → raw ≡ leads_to (plan_trees plan) held e → next ≡ settled_by release raw
     → (q : ℕ) → has next q ≡ true → q < length (plan_rule plan).states
-taken-within plan held e raw release next low release_is raw-is next-is =
+taken_within plan held e raw release next low release_is raw-is next-is =
     subst (λ (n : ℕ). (q : ℕ) → has n q ≡ true → q < length (plan_rule plan).states) (sym (next-is ∙ ap₂ settled_by release_is raw-is)) (led_within plan held e low)
 
 -- ---- the take

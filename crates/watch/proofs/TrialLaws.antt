@@ -13,7 +13,7 @@ use Rattle.rules.specs.declared.Answer.{Answer}
 use Rattle.rules.specs.declared.Answer.TheVariants as answer
 use Rattle.rules.specs.watch.Verdicts.{IsBreach, word_of}
 use Rattle.rules.specs.watch.Holding.{leads_to}
-use Rattle.rules.proofs.watch.CalledLaws.{Rehearsed, rehearsed_none, rehearsed_more, rehearsed-breached, rehearsed_breach_found, rehearsed_not_an_event, rehearsed-finished}
+use Rattle.rules.proofs.watch.CalledLaws.{Rehearsed, rehearsed_none, rehearsed_more, rehearsed_breached, rehearsed_breach_found, rehearsed_not_an_event, rehearsed_finished}
 use Rattle.sources.specs.PlainLogs.{log_from, plain_events}
 use Rattle.sources.specs.Waiting.{any_waiting}
 use Rattle.fitting.specs.declared.plan.Plan.{Plan}
@@ -74,7 +74,7 @@ module _ (plan : Plan) (s : Snapshot) where
 
   module _ (r : Bor (List ℕ)) (coming : List ℕ) where
     pub trial_refused : IsBreach s.verdict → CalledOn plan (call.Rehearse r) s coming (answer.Refused refusal.Breached) s coming
-    trial_refused b es h = (es, rehearsed-breached (plan_rule plan) (plan_trees plan) (plan_sound plan) s r.now coming b es h, h)
+    trial_refused b es h = (es, rehearsed_breached (plan_rule plan) (plan_trees plan) (plan_sound plan) s r.now coming b es h, h)
 
     module _ (k : ℕ) (t : Snapshot) (so_far : Trial plan s r.now k t) where
       pub trial_breach : IsBreach t.verdict → CalledOn plan (call.Rehearse r) s coming (answer.Tried word.Breach k) s coming
@@ -97,7 +97,7 @@ module _ (plan : Plan) (s : Snapshot) where
         es,
         subst (λ (x : Word). Rattle.rules.specs.watch.Calls.Rehearsing (plan_rule plan) (plan_trees plan) es coming r.now (answer.Tried x (length r.now)) es coming)
             (so_far.worded ∙ sym is)
-            (rehearsed-finished (plan_rule plan) (plan_trees plan) (plan_sound plan) s r.now coming k t.held so_far.shown so_far.stands (lasts r.now k t so_far nb) all es h),
+            (rehearsed_finished (plan_rule plan) (plan_trees plan) (plan_sound plan) s r.now coming k t.held so_far.shown so_far.stands (lasts r.now k t so_far nb) all es h),
         h,
       )
 

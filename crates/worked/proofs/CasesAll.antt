@@ -3,10 +3,10 @@ use Rattle.std.proofs.Common.{refl}
 use Rattle.codec.specs.declared.fault.NumberFault.TheVariants.{Short, Form}
 use Rattle.events.proofs.FourCells.{four_cells}
 use Rattle.worked.specs.Cases.{WorkedCases}
-use Rattle.worked.proofs.SmallRules.{clearing-shows, staying-shows, hopeless-shows, wavering-shows}
-use Rattle.worked.proofs.WorkedFiles.{worked-read, clearing-read, staying-read, hopeless-read, wavering-read}
-use Rattle.worked.proofs.WorkedRule.{worked-fitted, worst-fitted, worked_rehearsal, worked_refusal, worked-rehearsals}
-use Rattle.worked.proofs.WorkedText.{worked-printed, worked_printed_alone}
+use Rattle.worked.proofs.SmallRules.{clearing_shows, staying_shows, hopeless_shows, wavering_shows}
+use Rattle.worked.proofs.WorkedFiles.{worked_read, clearing_read, staying_read, hopeless_read, wavering_read}
+use Rattle.worked.proofs.WorkedRule.{worked_fitted, worst_fitted, worked_rehearsal, worked_refusal, worked_rehearsals}
+use Rattle.worked.proofs.WorkedText.{worked_printed, worked_printed_alone}
 
 pub worked_cases : WorkedCases
 worked_cases = record {
@@ -14,25 +14,25 @@ worked_cases = record {
   number_read = refl;
   number_long = (Form 0, refl, refl);
   number_short = (Short 1, refl, refl);
-  rule-read = worked-read;
-  by_expected = worked-fitted;
+  rule_is_read = worked_read;
+  by_expected = worked_fitted;
   twenty_nodes = refl;
-  first-nodes = refl;
+  first_nodes = refl;
   first_cost = refl;
-  by_worst = worst-fitted;
-  printed = worked-printed;
+  by_worst = worst_fitted;
+  printed = worked_printed;
   printed_alone = worked_printed_alone;
   rehearsed = worked_rehearsal;
   rehearsal_refused = worked_refusal;
   refusal_number = refl;
   refusal_index = refl;
-  rehearsals = worked-rehearsals;
-  clearing-read = clearing-read;
-  clearing-shows = clearing-shows;
-  staying-read = staying-read;
-  staying-shows = staying-shows;
-  hopeless-read = hopeless-read;
-  hopeless-shows = hopeless-shows;
-  wavering-read = wavering-read;
-  wavering-shows = wavering-shows;
+  rehearsals = worked_rehearsals;
+  clearing_read = clearing_read;
+  clearing_shows = clearing_shows;
+  staying_read = staying_read;
+  staying_shows = staying_shows;
+  hopeless_read = hopeless_read;
+  hopeless_shows = hopeless_shows;
+  wavering_read = wavering_read;
+  wavering_shows = wavering_shows;
 }

@@ -9,7 +9,7 @@ use Rattle.worked.specs.Cases.{AlwaysShows, clearing, staying, hopeless, waverin
 use Rattle.events.proofs.SetLaws.{dec_t, ∈_below}
 use Rattle.events.proofs.CellLaws.{covers_all, covers_down}
 use Rattle.rules.proofs.automata.RunLaws.{reaches_ending}
-use Rattle.rules.proofs.watch.VerdictLaws.{shows_open, shows-breach, shows-clear}
+use Rattle.rules.proofs.watch.VerdictLaws.{shows_open, shows_breach, shows_clear}
 
 -- cell 1 covers the events with line 0 on, and cell 2 those with it off
 covers_on : (e : ℕ) → T (has e 0) → Covers 1 e
@@ -31,8 +31,8 @@ clearing_safe = record { small = lit≤ tt; live = λ q h. live q (∈_below 2 q
       start = 0;
       accepting = 1;
       begins = refl;
-      u-events = (lit≤ tt, tt);
-      v-events = (lit≤ tt, tt);
+      u_events = (lit≤ tt, tt);
+      v_events = (lit≤ tt, tt);
       v_turns = tt;
       accepts = tt;
       there = (1, inr (inl (refl, covers_on 1 tt, refl)), refl);
@@ -44,8 +44,8 @@ clearing_safe = record { small = lit≤ tt; live = λ q h. live q (∈_below 2 q
       start = 1;
       accepting = 1;
       begins = refl;
-      u-events = tt;
-      v-events = (lit≤ tt, tt);
+      u_events = tt;
+      v_events = (lit≤ tt, tt);
       v_turns = tt;
       accepts = tt;
       there = refl;
@@ -58,9 +58,9 @@ clearing_safe = record { small = lit≤ tt; live = λ q h. live q (∈_below 2 q
     stays (suc zero) e l = (1, inr (inr (inl (refl, covers_all e, refl))), tt)
     stays (suc (suc q)) e l = absurd (let no_way : ⊥ = omega arith in no_way)
 
-pub clearing-shows : AlwaysShows clearing (verdict.ClearSince 0)
+pub clearing_shows : AlwaysShows clearing (verdict.ClearSince 0)
 unfolding has
-clearing-shows es ok = shows-clear clearing es 0 ok (record {
+clearing_shows es ok = shows_clear clearing es 0 ok (record {
   within = omega arith;
   holds = (0, tt, (0, refl, (3, clearing_safe, tt)));
   before = λ k l. absurd (not-suc-le-zero l);
@@ -79,8 +79,8 @@ staying_safe = record { small = lit≤ tt; live = λ q h. live q (∈_below 1 q 
       start = 0;
       accepting = 0;
       begins = refl;
-      u-events = tt;
-      v-events = (lit≤ tt, tt);
+      u_events = tt;
+      v_events = (lit≤ tt, tt);
       v_turns = tt;
       accepts = tt;
       there = refl;
@@ -92,9 +92,9 @@ staying_safe = record { small = lit≤ tt; live = λ q h. live q (∈_below 1 q 
     stays zero e l = (0, inl (refl, covers_all e, refl), tt)
     stays (suc q) e l = absurd (let no_way : ⊥ = omega arith in no_way)
 
-pub staying-shows : AlwaysShows staying (verdict.ClearSince 0)
+pub staying_shows : AlwaysShows staying (verdict.ClearSince 0)
 unfolding has
-staying-shows es ok = shows-clear staying es 0 ok (record {
+staying_shows es ok = shows_clear staying es 0 ok (record {
   within = omega arith;
   holds = (0, tt, (0, refl, (1, staying_safe, tt)));
   before = λ k l. absurd (not-suc-le-zero l);
@@ -109,8 +109,8 @@ accepts_none (suc (suc zero)) h = h
 accepts_none (suc (suc (suc zero))) h = h
 accepts_none (suc (suc (suc (suc a)))) h = h
 
-pub hopeless-shows : AlwaysShows hopeless (verdict.BreachAt 0)
-hopeless-shows es ok = shows-breach hopeless es 0 ok (record { within = omega arith; holds = λ e. accepts_none e.accepting e.accepts; before = λ k l. absurd (not-suc-le-zero l) })
+pub hopeless_shows : AlwaysShows hopeless (verdict.BreachAt 0)
+hopeless_shows es ok = shows_breach hopeless es 0 ok (record { within = omega arith; holds = λ e. accepts_none e.accepting e.accepts; before = λ k l. absurd (not-suc-le-zero l) })
 
 -- ---- open for ever: both states start and accepting, moves (0,1,0), (0,1,1), (1,2,0), (1,2,1)
 
@@ -130,11 +130,11 @@ wavering_run (e ∷ es) = go (dec_t (has e 0)) (wavering_run es)
     go (inl h) (q, l, (r, lr, run)) = (0, lit≤ tt, (r, lr, (q, two_states (Step wavering 0 e) (inl (refl, covers_on e h, refl)) (inr (inl (refl, covers_on e h, refl))) q l, run)))
     go (inr n) (q, l, (r, lr, run)) = (1, lit≤ tt, (r, lr, (q, two_states (Step wavering 1 e) (inr (inr (inl (refl, covers_off e (off n), refl)))) (inr (inr (inr (inl (refl, covers_off e (off n), refl))))) q l, run)))
 
-wavering-live : (q : ℕ) → q < 2 → Live wavering q
+wavering_live : (q : ℕ) → q < 2 → Live wavering q
 unfolding has
-wavering-live = two_states (Live wavering)
-    (record { u = []; v = 1 ∷ []; start = 0; accepting = 0; begins = refl; u-events = tt; v-events = (lit≤ tt, tt); v_turns = tt; accepts = tt; there = refl; round = (0, inl (refl, covers_on 1 tt, refl), refl) })
-    (record { u = []; v = 0 ∷ []; start = 1; accepting = 1; begins = refl; u-events = tt; v-events = (lit≤ tt, tt); v_turns = tt; accepts = tt; there = refl; round = (1, inr (inr (inr (inl (refl, covers_off 0 tt, refl)))), refl) })
+wavering_live = two_states (Live wavering)
+    (record { u = []; v = 1 ∷ []; start = 0; accepting = 0; begins = refl; u_events = tt; v_events = (lit≤ tt, tt); v_turns = tt; accepts = tt; there = refl; round = (0, inl (refl, covers_on 1 tt, refl), refl) })
+    (record { u = []; v = 0 ∷ []; start = 1; accepting = 1; begins = refl; u_events = tt; v_events = (lit≤ tt, tt); v_turns = tt; accepts = tt; there = refl; round = (1, inr (inr (inr (inl (refl, covers_off 0 tt, refl)))), refl) })
 
 wavering_unsafe : (q : ℕ) → Safe wavering q → ⊥
 unfolding has
@@ -154,7 +154,7 @@ wavering_unsafe q (set, safe, h) = suc-ne-zero 0 (at_off (safe.stays q 0 h (lit�
     at_on (inr (inr (inr (inl (p, c, x))))) = absurd (c 0 (lit≤ tt))
     at_on (inr (inr (inr (inr none)))) = absurd none
 
-pub wavering-shows : AlwaysShows wavering verdict.Open
-wavering-shows es ok = shows_open wavering es ok
-    (λ n. let (s, l, (q, lq, run)) = wavering_run es in n (reaches_ending wavering es (s, two_states (Starts wavering) tt tt s l, (q, run, wavering-live q lq))))
+pub wavering_shows : AlwaysShows wavering verdict.Open
+wavering_shows es ok = shows_open wavering es ok
+    (λ n. let (s, l, (q, lq, run)) = wavering_run es in n (reaches_ending wavering es (s, two_states (Starts wavering) tt tt s l, (q, run, wavering_live q lq))))
     (λ (s, st, (q, run, safe)). wavering_unsafe q safe)

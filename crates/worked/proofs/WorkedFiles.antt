@@ -9,22 +9,22 @@ abbrev held : Result Contents FileFault → Contents
 held (Ok c) = c
 held (Err fault) = record { lines = []; states_start = 0; states = []; moves_start = 0; moves = [] }
 
-pub worked-read : ReadAs worked_bytes worked
+pub worked_read : ReadAs worked_bytes worked
 unfolding file_of row_from
-worked-read = (held (file_of worked_bytes), refl, refl)
+worked_read = (held (file_of worked_bytes), refl, refl)
 
-pub clearing-read : ReadAs clearing_bytes clearing
+pub clearing_read : ReadAs clearing_bytes clearing
 unfolding file_of row_from
-clearing-read = (held (file_of clearing_bytes), refl, refl)
+clearing_read = (held (file_of clearing_bytes), refl, refl)
 
-pub staying-read : ReadAs staying_bytes staying
+pub staying_read : ReadAs staying_bytes staying
 unfolding file_of row_from
-staying-read = (held (file_of staying_bytes), refl, refl)
+staying_read = (held (file_of staying_bytes), refl, refl)
 
-pub hopeless-read : ReadAs hopeless_bytes hopeless
+pub hopeless_read : ReadAs hopeless_bytes hopeless
 unfolding file_of row_from
-hopeless-read = (held (file_of hopeless_bytes), refl, refl)
+hopeless_read = (held (file_of hopeless_bytes), refl, refl)
 
-pub wavering-read : ReadAs wavering_bytes wavering
+pub wavering_read : ReadAs wavering_bytes wavering
 unfolding file_of row_from
-wavering-read = (held (file_of wavering_bytes), refl, refl)
+wavering_read = (held (file_of wavering_bytes), refl, refl)

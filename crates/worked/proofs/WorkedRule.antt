@@ -24,13 +24,13 @@ use Rattle.rules.specs.watch.Promises.{FittedAll, Promise}
 use Rattle.worked.specs.Cases.{line, move, worked, by_expected, by_worst, kept_by3, worked_trees, worked_costs, worked_log}
 use Rattle.events.proofs.SetLaws.{∈_none, ∈_below}
 use Rattle.rules.proofs.automata.RuleLaws.{live_below}
-use Rattle.rules.proofs.automata.PruningLaws.{selected-wanted}
+use Rattle.rules.proofs.automata.PruningLaws.{selected_wanted}
 use Rattle.events.proofs.CellLaws.{covers_is}
 use Rattle.rules.proofs.trees.MeasureLaws.{expected_lawful, worst_lawful}
-use Rattle.rules.proofs.trees.BestLaws.{best-fitted, best-costs}
+use Rattle.rules.proofs.trees.BestLaws.{best_fitted, best_costs}
 use Rattle.rules.proofs.trees.BestComputed.{fill, cost_in, line_in, fill_bests, build, built}
 use Rattle.rules.proofs.watch.VerdictLaws.{is_breach}
-use Rattle.rules.proofs.watch.PromiseLaws.{fitted_sound, settled_open, reads_open, reads_breach, armed, taken, take-breached, take-taken, tried_none, tried_more, rehearse_breach_found, rehearse_not_an_event}
+use Rattle.rules.proofs.watch.PromiseLaws.{fitted_sound, settled_open, reads_open, reads_breach, armed, taken, take_breached, take_taken, tried_none, tried_more, rehearse_breach_found, rehearse_not_an_event}
 
 -- ---- it is well formed
 
@@ -54,7 +54,7 @@ rises (suc (suc (suc (suc (suc (suc k)))))) l d = absurd (let no_way : ⊥ = ome
 
 pub worked_well : WellFormed worked
 worked_well = record {
-  six-lines = refl;
+  six_lines = refl;
   lines_fit = (
     fits 10 20 (lit≤ tt) (lit≤ tt) (lit≤ tt),
     (
@@ -65,11 +65,11 @@ worked_well = record {
       ),
     ),
   );
-  some-state = lit≤ tt;
-  few-states = lit≤ tt;
-  some-start = (0, tt);
-  few-moves = lit≤ tt;
-  moves-fit = (
+  some_state = lit≤ tt;
+  few_states = lit≤ tt;
+  some_start = (0, tt);
+  few_moves = lit≤ tt;
+  moves_fit = (
     goes 0 1 1 (lit≤ tt) (lit≤ tt) (lit≤ tt),
     (
       goes 0 5 2 (lit≤ tt) (lit≤ tt) (lit≤ tt),
@@ -100,8 +100,8 @@ live_at : (q : ℕ) → Accepts worked q → Run worked q (8 ∷ []) q → Live 
 live_at q acc round = record {
   u = [];
   v = 8 ∷ [];
-  u-events = tt;
-  v-events = (lit≤ tt, tt);
+  u_events = tt;
+  v_events = (lit≤ tt, tt);
   v_turns = tt;
   start = q;
   accepting = q;
@@ -111,13 +111,13 @@ live_at q acc round = record {
   round = round;
 }
 
-worked-live : (q : ℕ) → q < 4 → Live worked q
+worked_live : (q : ℕ) → q < 4 → Live worked q
 unfolding covers has
-worked-live zero l = record {
+worked_live zero l = record {
   u = 1 ∷ [];
   v = 8 ∷ [];
-  u-events = (lit≤ tt, tt);
-  v-events = (lit≤ tt, tt);
+  u_events = (lit≤ tt, tt);
+  v_events = (lit≤ tt, tt);
   v_turns = tt;
   start = 0;
   accepting = 1;
@@ -126,10 +126,10 @@ worked-live zero l = record {
   there = (1, inl (refl, covered 1 1 tt, refl), refl);
   round = (1, inr (inr (inr (inr (inl (refl, covered 27 8 tt, refl))))), refl);
 }
-worked-live (suc zero) l = live_at 1 tt (1, inr (inr (inr (inr (inl (refl, covered 27 8 tt, refl))))), refl)
-worked-live (suc (suc zero)) l = live_at 2 tt (2, inr (inr (inr (inr (inr (inl (refl, covered 27 8 tt, refl)))))), refl)
-worked-live (suc (suc (suc zero))) l = live_at 3 tt (3, inr (inr (inr (inr (inr (inr (inl (refl, covered 27 8 tt, refl))))))), refl)
-worked-live (suc (suc (suc (suc q)))) l = absurd (let no_way : ⊥ = omega arith in no_way)
+worked_live (suc zero) l = live_at 1 tt (1, inr (inr (inr (inr (inl (refl, covered 27 8 tt, refl))))), refl)
+worked_live (suc (suc zero)) l = live_at 2 tt (2, inr (inr (inr (inr (inr (inl (refl, covered 27 8 tt, refl)))))), refl)
+worked_live (suc (suc (suc zero))) l = live_at 3 tt (3, inr (inr (inr (inr (inr (inr (inl (refl, covered 27 8 tt, refl))))))), refl)
+worked_live (suc (suc (suc (suc q)))) l = absurd (let no_way : ⊥ = omega arith in no_way)
 
 -- at event 0 only state 0 has a move, and it leads to state 1
 step_at_0 : (q r : ℕ) → Step worked q 0 r → (0 ≡ q) × (1 ≡ r)
@@ -157,10 +157,10 @@ four (suc (suc zero)) l = tt
 four (suc (suc (suc zero))) l = tt
 four (suc (suc (suc (suc q)))) l = absurd (let no_way : ⊥ = omega arith in no_way)
 
-pub worked-kinds : Kinds worked 15 0 0
-worked-kinds = record {
+pub worked_kinds : Kinds worked 15 0 0
+worked_kinds = record {
   small = lit≤ tt;
-  live_is = λ q. ((λ h. worked-live q (∈_below 4 q 15 (lit≤ tt) h)), (λ l. four q (live_below worked worked_well q l)));
+  live_is = λ q. ((λ h. worked_live q (∈_below 4 q 15 (lit≤ tt) h)), (λ l. four q (live_below worked worked_well q l)));
   safe_is = λ q. ((λ h. absurd (∈_none q h)), (λ s. absurd (worked_unsafe q s)));
   release_is = λ q s. absurd (worked_unsafe q s);
 }
@@ -173,7 +173,7 @@ wants q e = selected (pruned_moves worked 15 0 0 q) e
 
 wanted : (q : ℕ) → Wants worked q (wants q)
 unfolding wants
-wanted q = selected-wanted worked 15 0 0 worked-kinds q
+wanted q = selected_wanted worked 15 0 0 worked_kinds q
 
 module _ (price : Price) (law : Lawful price) (q : ℕ) (t : Tree) (is-built : build price worked.lines (wants q) (fill price worked.lines (wants q) 729) 6 0 ≡ t) where
   best : BestTree (wants q) (line_in price worked.lines (wants q) (fill price worked.lines (wants q) 729)) 0 t
@@ -181,8 +181,8 @@ module _ (price : Price) (law : Lawful price) (q : ℕ) (t : Tree) (is-built : b
 
   -- the tree that the table gives is the fitted one, at its own cost
   built_fitted : Fitted price worked q t (cost_of price worked.lines 6 t)
-  built_fitted = subst (Fitted price worked q t) (sym (best-costs price worked q (wants q) costs chosen law worked_well (wanted q) bests t best))
-      (best-fitted price worked q (wants q) costs chosen law worked_well (wanted q) bests t best)
+  built_fitted = subst (Fitted price worked q t) (sym (best_costs price worked q (wants q) costs chosen law worked_well (wanted q) bests t best))
+      (best_fitted price worked q (wants q) costs chosen law worked_well (wanted q) bests t best)
     where
       costs : ℕ → ℕ
       costs = cost_in price worked.lines (wants q) (fill price worked.lines (wants q) 729)
@@ -214,37 +214,37 @@ unfolding fill wants has set_of covers lowest free_in
 worst_built = refl
 
 -- by expected cost the first state's tree costs 30 times 10 ^ 12, and forks on line 1 first
-pub expected-fitted : Fitted expected worked 0 by_expected 30000000000000
-expected-fitted = built_fitted expected expected_lawful 0 by_expected expected_built_0
+pub expected_fitted : Fitted expected worked 0 by_expected 30000000000000
+expected_fitted = built_fitted expected expected_lawful 0 by_expected expected_built_0
 
 -- by worst cost it costs 35, and forks on line 0 first
-pub worst-fitted : Fitted worst worked 0 by_worst 35
-worst-fitted = built_fitted worst worst_lawful 0 by_worst worst_built
+pub worst_fitted : Fitted worst worked 0 by_worst 35
+worst_fitted = built_fitted worst worst_lawful 0 by_worst worst_built
 
-pub worked-fitted : FittedAll expected worked worked_trees worked_costs
-worked-fitted = record { a_tree_each = refl; a_cost_each = refl; fitted = each }
+pub worked_fitted : FittedAll expected worked worked_trees worked_costs
+worked_fitted = record { a_tree_each = refl; a_cost_each = refl; fitted = each }
   where
     each : (q : ℕ) → q < 4 → Fitted expected worked q (tree_of worked_trees q) (get_or worked_costs q 0)
-    each zero l = expected-fitted
+    each zero l = expected_fitted
     each (suc zero) l = built_fitted expected expected_lawful 1 (kept_by3 2) expected_built_1
     each (suc (suc zero)) l = built_fitted expected expected_lawful 2 (kept_by3 4) expected_built_2
     each (suc (suc (suc zero))) l = built_fitted expected expected_lawful 3 (kept_by3 8) expected_built_3
     each (suc (suc (suc (suc q)))) l = absurd (let no_way : ⊥ = omega arith in no_way)
 
 pub worked_sound : Sound worked worked_trees
-worked_sound = fitted_sound expected worked worked_trees worked_costs worked_well (λ q. inr (worked_unsafe q)) worked-fitted
+worked_sound = fitted_sound expected worked worked_trees worked_costs worked_well (λ q. inr (worked_unsafe q)) worked_fitted
 
 -- ---- a watch over the events 5, 8, 0, 1
 
 no_release : ReleaseSet worked 0
 no_release = inr ((λ r rel. worked_unsafe r rel.0), refl)
 
-worked-start : StartSet worked 1
+worked_start : StartSet worked 1
 unfolding has
-worked-start = record { small = lit≤ tt; members = λ t. (fwd t, (λ (s, st, stands). bwd t s st stands)) }
+worked_start = record { small = lit≤ tt; members = λ t. (fwd t, (λ (s, st, stands). bwd t s st stands)) }
   where
     fwd : (t : ℕ) → t ∈ 1 → (s : ℕ) × Starts worked s × StandsFor worked s t
-    fwd t h = let low = ∈_below 1 t 1 (lit≤ tt) h in let z : t ≡ 0 = omega arith in (0, tt, (worked-live 0 (lit≤ tt), inl (worked_unsafe 0, z)))
+    fwd t h = let low = ∈_below 1 t 1 (lit≤ tt) h in let z : t ≡ 0 = omega arith in (0, tt, (worked_live 0 (lit≤ tt), inl (worked_unsafe 0, z)))
 
     bwd : (t s : ℕ) → Starts worked s → StandsFor worked s t → t ∈ 1
     bwd t zero st (live, inl (unsafe, z)) = subst (λ (k : ℕ). k ∈ 1) (sym z) tt
@@ -265,7 +265,7 @@ not_open : IsBreach verdict.Open → ⊥
 not_open (j, e) = is_breach verdict.Open j e
 
 after_none : Watches worked worked_trees [] 1 verdict.Open
-after_none = armed worked worked_trees 1 1 verdict.Open worked-start (kept 1) (still_open 0 1 (suc-ne-zero 0))
+after_none = armed worked worked_trees 1 1 verdict.Open worked_start (kept 1) (still_open 0 1 (suc-ne-zero 0))
 
 after_5 : Watches worked worked_trees (5 ∷ []) 10 verdict.Open
 unfolding union_over has
@@ -291,30 +291,30 @@ worked_answers =
 
 take_5 : (later : List ℕ) → Taking worked worked_trees [] (5 ∷ later) (answer.Taken verdict.Open 6) (5 ∷ []) later
 unfolding union_over has
-take_5 later = take-taken worked worked_trees worked_sound [] 1 verdict.Open after_none 5 later 10 verdict.Open not_open (lit≤ tt) (kept 10) (still_open 1 10 (suc-ne-zero 9))
+take_5 later = take_taken worked worked_trees worked_sound [] 1 verdict.Open after_none 5 later 10 verdict.Open not_open (lit≤ tt) (kept 10) (still_open 1 10 (suc-ne-zero 9))
 
 take_8 : (later : List ℕ) → Taking worked worked_trees (5 ∷ []) (8 ∷ later) (answer.Taken verdict.Open 8) (5 ∷ 8 ∷ []) later
 unfolding union_over has
-take_8 later = take-taken worked worked_trees worked_sound (5 ∷ []) 10 verdict.Open after_5 8 later 10 verdict.Open not_open (lit≤ tt) (kept 10) (still_open 2 10 (suc-ne-zero 9))
+take_8 later = take_taken worked worked_trees worked_sound (5 ∷ []) 10 verdict.Open after_5 8 later 10 verdict.Open not_open (lit≤ tt) (kept 10) (still_open 2 10 (suc-ne-zero 9))
 
 take_0 : (later : List ℕ) → Taking worked worked_trees (5 ∷ 8 ∷ []) (0 ∷ later) (answer.Taken (verdict.BreachAt 3) 8) (5 ∷ 8 ∷ 0 ∷ []) later
 unfolding union_over has
-take_0 later = take-taken worked worked_trees worked_sound (5 ∷ 8 ∷ []) 10 verdict.Open after_5_8 0 later 0 (verdict.BreachAt 3) not_open (lit≤ tt) (kept 0) (reads_breach worked 0 no_release 3)
+take_0 later = take_taken worked worked_trees worked_sound (5 ∷ 8 ∷ []) 10 verdict.Open after_5_8 0 later 0 (verdict.BreachAt 3) not_open (lit≤ tt) (kept 0) (reads_breach worked 0 no_release 3)
 
 -- once the breach stands, a take is refused
-take-no_more : (coming : List ℕ) → Taking worked worked_trees (5 ∷ 8 ∷ 0 ∷ []) coming (answer.Refused refusal.Breached) (5 ∷ 8 ∷ 0 ∷ []) coming
-take-no_more coming = take-breached worked worked_trees worked_sound (5 ∷ 8 ∷ 0 ∷ []) 0 (verdict.BreachAt 3) after_5_8_0 coming (3, refl)
+take_no_more : (coming : List ℕ) → Taking worked worked_trees (5 ∷ 8 ∷ 0 ∷ []) coming (answer.Refused refusal.Breached) (5 ∷ 8 ∷ 0 ∷ []) coming
+take_no_more coming = take_breached worked worked_trees worked_sound (5 ∷ 8 ∷ 0 ∷ []) 0 (verdict.BreachAt 3) after_5_8_0 coming (3, refl)
 
 pub worked_calls : Promise expected worked worked_trees worked_costs (call.Take ∷ call.Take ∷ call.Take ∷ call.Take ∷ call.Take ∷ []) worked_log worked_answers (1 ∷ [])
 worked_calls = record {
-  fit = worked-fitted;
+  fit = worked_fitted;
   taken = 5 ∷ 8 ∷ 0 ∷ [];
   answered =
       C.CallsAll.one_more (take_5 (8 ∷ 0 ∷ 1 ∷ []))
       (C.CallsAll.one_more (take_8 (0 ∷ 1 ∷ []))
       (C.CallsAll.one_more (take_0 (1 ∷ []))
-      (C.CallsAll.one_more (take-no_more (1 ∷ []))
-      (C.CallsAll.one_more (take-no_more (1 ∷ []))
+      (C.CallsAll.one_more (take_no_more (1 ∷ []))
+      (C.CallsAll.one_more (take_no_more (1 ∷ []))
       C.CallsAll.no_more))));
 }
 
@@ -336,11 +336,11 @@ worked_refusal coming =
     rehearse_not_an_event worked worked_trees worked_sound (5 ∷ []) (8 ∷ 64 ∷ []) 1 10 verdict.Open t1 coming not_open (lit≤ tt) (lit≤ tt)
 
 -- the take of event 5 and both rehearsals, as calls of one watch
-pub worked-rehearsals : (first second : Bor (List ℕ)) (coming : List ℕ) → first.now ≡ 8 ∷ 0 ∷ 64 ∷ [] → second.now ≡ 8 ∷ 64 ∷ []
+pub worked_rehearsals : (first second : Bor (List ℕ)) (coming : List ℕ) → first.now ≡ 8 ∷ 0 ∷ 64 ∷ [] → second.now ≡ 8 ∷ 64 ∷ []
     → Promise expected worked worked_trees worked_costs (call.Take ∷ call.Rehearse first ∷ call.Rehearse second ∷ []) (5 ∷ coming)
     (answer.Taken verdict.Open 6 ∷ answer.Tried word.Breach 2 ∷ answer.Refused (refusal.NoEvent 1) ∷ []) coming
-worked-rehearsals first second coming is-first is-second = record {
-  fit = worked-fitted;
+worked_rehearsals first second coming is-first is-second = record {
+  fit = worked_fitted;
   taken = 5 ∷ [];
   answered =
       C.CallsAll.one_more (take_5 coming)

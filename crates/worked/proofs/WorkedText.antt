@@ -11,7 +11,7 @@ use Rattle.rulefile.specs.File.{Contents, file_of}
 use Rattle.sources.specs.PlainLogs.{log_from, checked_log}
 use Rattle.listing.specs.Prints.{takes_text, Listed, LogPrints, RulePrints, Prints}
 use Rattle.worked.specs.Cases.{ReadAs, worked, worked_bytes, worked_trees, worked_costs, worked_log, worked_text}
-use Rattle.worked.proofs.WorkedFiles.{worked-read}
+use Rattle.worked.proofs.WorkedFiles.{worked_read}
 use Rattle.worked.proofs.WorkedRule.{worked_answers, worked_calls}
 
 -- what is printed of a good file and a good log is the listing of its rule over the log
@@ -35,9 +35,9 @@ good_log = refl
 log_comes : AllByRecursion (Event worked) worked_log
 log_comes = (lit≤ tt, (lit≤ tt, (lit≤ tt, (lit≤ tt, tt))))
 
-worked-lines : takes_text 0 worked_answers ≡ worked_text
+worked_lines : takes_text 0 worked_answers ≡ worked_text
 unfolding takes_text digits
-worked-lines = refl {a = worked_text}
+worked_lines = refl {a = worked_text}
 
 worked_listed : Listed worked worked_log worked_text
 worked_listed = record {
@@ -47,14 +47,14 @@ worked_listed = record {
   left = 1 ∷ [];
   comes = log_comes;
   promise = worked_calls;
-  lines = sym worked-lines;
+  lines = sym worked_lines;
 }
 
-pub worked-printed : Prints (Some worked_bytes) (Some worked_log) worked_text
-worked-printed = listed_printed worked_bytes worked_log worked worked_text good_log worked-read worked_listed
+pub worked_printed : Prints (Some worked_bytes) (Some worked_log) worked_text
+worked_printed = listed_printed worked_bytes worked_log worked worked_text good_log worked_read worked_listed
 
 pub worked_printed_alone : (text : List ℕ) → Prints (Some worked_bytes) (Some worked_log) text → text ≡ worked_text
 worked_printed_alone text printed =
-    let listed = printed_listed worked_bytes worked_log worked text good_log worked-read printed in
+    let listed = printed_listed worked_bytes worked_log worked text good_log worked_read printed in
     let (_, _, same, _) = promise_one expected worked listed.trees worked_trees listed.costs worked_costs _ worked_log listed.answers worked_answers listed.left (1 ∷ []) log_comes listed.promise worked_calls in
-    listed.lines ∙ (ap (takes_text 0) same ∙ worked-lines)
+    listed.lines ∙ (ap (takes_text 0) same ∙ worked_lines)

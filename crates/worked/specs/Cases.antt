@@ -165,13 +165,13 @@ pub record WorkedCases : Type 0 where
   -- E6 alone ends inside a number: 11 at place 1
   pub number_short : NumberRefused (230 ∷ []) (record { number = 11; place = 1; layer = layer.Number })
   -- the 53 bytes are a good file of the worked rule
-  pub rule-read : ReadAs worked_bytes worked
+  pub rule_is_read : ReadAs worked_bytes worked
   -- its trees and costs by expected cost
   pub by_expected : FittedAll expected worked worked_trees worked_costs
   -- the trees take 20 nodes
   pub twenty_nodes : length (layout worked_trees) ≡ 20
   -- state 0's tree is the first 11 of them: forks on line 1 at 0, on line 0 at 1, on line 2 at 2, 5 and 8; leaves 10, 2, 12, 4, 10 and 2 at 3, 4, 6, 7, 9 and 10
-  pub first-nodes : take 11 (layout worked_trees)
+  pub first_nodes : take 11 (layout worked_trees)
       ≡ node.Fork 1 1 8
       ∷ node.Fork 0 2 5
       ∷ node.Fork 2 3 4
@@ -205,18 +205,18 @@ pub record WorkedCases : Type 0 where
       → Promise expected worked worked_trees worked_costs (call.Take ∷ call.Rehearse first ∷ call.Rehearse second ∷ []) (5 ∷ coming)
       (answer.Taken verdict.Open 6 ∷ answer.Tried word.Breach 2 ∷ answer.Refused (refusal.NoEvent 1) ∷ []) coming
   -- the first small rule, by its file
-  pub clearing-read : ReadAs clearing_bytes clearing
+  pub clearing_read : ReadAs clearing_bytes clearing
   -- start 0, accepting 1, moves (0, 0, 0), (0, 1, 1), (1, 0, 1): CLEAR since 0
-  pub clearing-shows : AlwaysShows clearing (verdict.ClearSince 0)
+  pub clearing_shows : AlwaysShows clearing (verdict.ClearSince 0)
   -- the second
-  pub staying-read : ReadAs staying_bytes staying
+  pub staying_read : ReadAs staying_bytes staying
   -- start and accepting 0, moves (0, 0, 0), (0, 1, 1), (1, 1, 0): CLEAR since 0
-  pub staying-shows : AlwaysShows staying (verdict.ClearSince 0)
+  pub staying_shows : AlwaysShows staying (verdict.ClearSince 0)
   -- the third
-  pub hopeless-read : ReadAs hopeless_bytes hopeless
+  pub hopeless_read : ReadAs hopeless_bytes hopeless
   -- start 0, none accepting, moves (0, 0, 1), (1, 0, 2), (2, 0, 1), (2, 0, 3), (3, 0, 3): BREACH at 0
-  pub hopeless-shows : AlwaysShows hopeless (verdict.BreachAt 0)
+  pub hopeless_shows : AlwaysShows hopeless (verdict.BreachAt 0)
   -- the fourth
-  pub wavering-read : ReadAs wavering_bytes wavering
+  pub wavering_read : ReadAs wavering_bytes wavering
   -- both states start and accepting, moves (0, 1, 0), (0, 1, 1), (1, 2, 0), (1, 2, 1): OPEN for ever
-  pub wavering-shows : AlwaysShows wavering verdict.Open
+  pub wavering_shows : AlwaysShows wavering verdict.Open

@@ -1,7 +1,7 @@
 -- The table in src/ is the computed one, entry by entry.
-use Rattle.events.proofs.TableRule.{entries, entry-rule}
+use Rattle.events.proofs.TableRule.{entries, entry_rule}
 use Rattle.events.proofs.entry.Goals as goal
 
 pub returns : goal.returns
 unfolding entries
-returns c = entry-rule c.args.cell c.requires
+returns c = entry_rule c.args.cell c.requires

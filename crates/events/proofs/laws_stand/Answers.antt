@@ -2,7 +2,7 @@
 use Rattle.std.proofs.Common.{ℕ, ◌^◌, subst}
 use Rattle.events.specs.Sets.{◌∈◌}
 use Rattle.events.proofs.SetLaws.{∈-or, ∈-and, ∈_none, ∈_one, ∈_one_is, ∈_every, ∈_below, same_members, ∈-set_of, ∈_union, every_small}
-use Rattle.events.proofs.CellLaws.{covers_is, lowest-small, lowest-covered, lowest-least}
+use Rattle.events.proofs.CellLaws.{covers_is, lowest_small, lowest-covered, lowest_least}
 use Rattle.events.proofs.FourCells.{four_cells}
 use Rattle.events.proofs.laws_stand.Goals as goal
 
@@ -18,6 +18,6 @@ returns c = record {
   tested = ∈-set_of;
   over = ∈_union;
   covers = covers_is;
-  lowest = λ cell. (lowest-small cell, lowest-covered cell, lowest-least cell);
+  lowest = λ cell. (lowest_small cell, lowest-covered cell, lowest_least cell);
   cells = four_cells;
 }

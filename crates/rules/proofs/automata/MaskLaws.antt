@@ -8,8 +8,8 @@ use Rattle.events.specs.Cells.{Covers, lowest, one_if, count_below}
 use Rattle.rules.specs.automata.Rules.{Rule, Any, Accepts, Event}
 use Rattle.rules.specs.automata.Runs.{NotEmpty, Step, Run, Live, SafeSet, Safe}
 use Rattle.events.proofs.SetLaws.{dec∈, ∈_one, ∈_one_is, same_mask}
-use Rattle.events.proofs.CellLaws.{lowest-small, lowest-covered}
-use Rattle.rules.proofs.automata.RunLaws.{live-there}
+use Rattle.events.proofs.CellLaws.{lowest_small, lowest-covered}
+use Rattle.rules.proofs.automata.RunLaws.{live_there}
 
 -- ---- reachability
 
@@ -42,7 +42,7 @@ abbrev pub Turns : Rule → ℕ → Type 0
 Turns rule a = Accepts rule a × ((r : ℕ) × Edge rule a r × Way rule r a)
 
 pub live_turns : (rule : Rule) (q : ℕ) → Live rule q → (a : ℕ) × Turns rule a × Way rule q a
-live_turns rule q l = (l.accepting, (l.accepts, turn l.v l.v_turns l.v-events l.round), (l.u, l.u-events, live-there rule q l))
+live_turns rule q l = (l.accepting, (l.accepts, turn l.v l.v_turns l.v_events l.round), (l.u, l.u_events, live_there rule q l))
   where
     turn : (v : List ℕ) → NotEmpty v → AllByRecursion (Event rule) v → Run rule l.accepting v l.accepting → (r : ℕ) × Edge rule l.accepting r × Way rule r l.accepting
     turn [] n ok run = absurd n
@@ -52,8 +52,8 @@ pub turns_live : (rule : Rule) (q a : ℕ) → Turns rule a → Way rule q a →
 turns_live rule q a (acc, (r, (e, ok, step), (es, oks, run))) (us, uok, urun) = record {
   u = us;
   v = e ∷ es;
-  u-events = uok;
-  v-events = (ok, oks);
+  u_events = uok;
+  v_events = (ok, oks);
   v_turns = tt;
   start = q;
   accepting = a;
@@ -101,13 +101,13 @@ drop_unsafe rule set next holds dropped q (s, safe, h) = go (dec∈ q next)
 
 -- ---- every cell covers an event, so every move is an edge
 
-pub covers-some : (cell : ℕ) → (e : ℕ) × (e < 64) × Covers cell e
-covers-some cell = (lowest cell, lowest-small cell, lowest-covered cell)
+pub covers_some : (cell : ℕ) → (e : ℕ) × (e < 64) × Covers cell e
+covers_some cell = (lowest cell, lowest_small cell, lowest-covered cell)
 
 pub move_edge : (moves : List Move) (q r : ℕ) → Any (λ m. (m.from ≡ q) × (m.to ≡ r)) moves
     → (e : ℕ) × (e < 64) × Any (λ m. (m.from ≡ q) × Covers m.cell e × (m.to ≡ r)) moves
 move_edge [] q r h = absurd h
-move_edge (m ∷ moves) q r (inl (p, p')) = let (e, l, c) = covers-some m.cell in (e, l, inl (p, c, p'))
+move_edge (m ∷ moves) q r (inl (p, p')) = let (e, l, c) = covers_some m.cell in (e, l, inl (p, c, p'))
 move_edge (m ∷ moves) q r (inr h) = let (e, l, s) = move_edge moves q r h in (e, l, inr s)
 
 pub edge_move : (moves : List Move) (q r e : ℕ) → Any (λ m. (m.from ≡ q) × Covers m.cell e × (m.to ≡ r)) moves → Any (λ m. (m.from ≡ q) × (m.to ≡ r)) moves

@@ -58,9 +58,9 @@ pub ∈-selected : (gs : List Guarded) (e t : ℕ) → (t ∈ selected gs e) ↔
 ∈-selected [] e t = (∈_none t, (λ h. absurd h))
 ∈-selected (g ∷ gs) e t = selected_step g gs e t (∈-selected gs e t)
 
-pub selected-small : (gs : List Guarded) (e w : ℕ) → AllByRecursion (λ g. g.state < w) gs → selected gs e < 2 ^ w
-selected-small [] e w ok = Rattle.std.proofs.lemmas.Nat.pow_pos w
-selected-small (g ∷ gs) e w ok = go (covers g.cell e) (selected-small gs e w ok.1)
+pub selected_small : (gs : List Guarded) (e w : ℕ) → AllByRecursion (λ g. g.state < w) gs → selected gs e < 2 ^ w
+selected_small [] e w ok = Rattle.std.proofs.lemmas.Nat.pow_pos w
+selected_small (g ∷ gs) e w ok = go (covers g.cell e) (selected_small gs e w ok.1)
   where
     go : (b : Bool) → selected gs e < 2 ^ w → cond b (bit_or (2 ^ g.state) (selected gs e)) (selected gs e) < 2 ^ w
     go true h = or_lt w (2 ^ g.state) (selected gs e) (pow_below g.state w ok.0) h
@@ -170,19 +170,19 @@ module _ (rule : Rule) (live safe release : ℕ) (kinds : Kinds rule live safe r
   -- the set that an event selects from the pruned moves is the pruned set
   pub selected_pruned : (q e : ℕ) → IsPrunedSet rule q e (selected (pruned_moves rule live safe release q) e)
   selected_pruned q e = record {
-    small = selected-small (pruned_moves rule live safe release q) e 32 (pruned_small q);
+    small = selected_small (pruned_moves rule live safe release q) e 32 (pruned_small q);
     members = λ t. (
       (λ h. pruned_fwd q e t ((∈-selected (pruned_moves rule live safe release q) e t).0 h)),
       (λ h. (∈-selected (pruned_moves rule live safe release q) e t).1 (pruned_bwd q e t h)),
     );
   }
 
-  pub selected-wanted : (q : ℕ) → Wants rule q (selected (pruned_moves rule live safe release q))
-  selected-wanted q e l = selected_pruned q e
+  pub selected_wanted : (q : ℕ) → Wants rule q (selected (pruned_moves rule live safe release q))
+  selected_wanted q e l = selected_pruned q e
 
   -- a tree serves a state just when it implements the state's pruned moves
-  pub serves-implements : (q : ℕ) (t : Tree) → Serves rule q t ↔ Implements t (pruned_moves rule live safe release q)
-  serves-implements q t = (
+  pub serves_implements : (q : ℕ) (t : Tree) → Serves rule q t ↔ Implements t (pruned_moves rule live safe release q)
+  serves_implements q t = (
     (λ h e l. pruned_one rule q e (gives t e) (selected (pruned_moves rule live safe release q) e) (h e l) (selected_pruned q e)),
     (λ h e l. subst (IsPrunedSet rule q e) (sym (h e l)) (selected_pruned q e)),
   )

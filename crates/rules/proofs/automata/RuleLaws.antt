@@ -6,7 +6,7 @@ use Rattle.rules.specs.declared.Move.{Move}
 use Rattle.events.specs.Cells.{Covers}
 use Rattle.rules.specs.automata.Rules.{Rule, Any, StateWith, line_of, LineInRange, MoveInRange, WellFormed}
 use Rattle.rules.specs.automata.Runs.{Step, Run, Live, Dead}
-use Rattle.rules.proofs.automata.RunLaws.{live-there}
+use Rattle.rules.proofs.automata.RunLaws.{live_there}
 
 -- ---- elements by place
 
@@ -39,7 +39,7 @@ state_at_lem P (x ∷ xs) d (suc q) =
 -- ---- a well-formed rule
 
 pub line_in_range : (rule : Rule) → WellFormed rule → (i : ℕ) → i < 6 → LineInRange (line_of rule.lines i)
-line_in_range rule well i l = all_at LineInRange rule.lines i (record { cost = 0; chance = 0 }) (omega (arith, well.six-lines)) well.lines_fit
+line_in_range rule well i l = all_at LineInRange rule.lines i (record { cost = 0; chance = 0 }) (omega (arith, well.six_lines)) well.lines_fit
 
 step_in_range : (rule : Rule) (moves : List Move) (q e r : ℕ) → AllByRecursion (MoveInRange rule) moves → Any (λ m. (m.from ≡ q) × Covers m.cell e × (m.to ≡ r)) moves
     → (q < length rule.states) × (r < length rule.states)
@@ -50,11 +50,11 @@ step_in_range rule (m ∷ moves) q e r ok (inr h) = step_in_range rule moves q e
 
 -- both ends of a step are states of the rule
 pub step_below : (rule : Rule) → WellFormed rule → (q e r : ℕ) → Step rule q e r → (q < length rule.states) × (r < length rule.states)
-step_below rule well q e r step = step_in_range rule rule.moves q e r well.moves-fit step
+step_below rule well q e r step = step_in_range rule rule.moves q e r well.moves_fit step
 
 -- a live state is a state of the rule
 pub live_below : (rule : Rule) → WellFormed rule → (q : ℕ) → Live rule q → q < length rule.states
-live_below rule well q l = go l.u (live-there rule q l)
+live_below rule well q l = go l.u (live_there rule q l)
   where
     go : (u : List ℕ) → Run rule q u l.accepting → q < length rule.states
     go [] run = subst (λ (k : ℕ). k < length rule.states) (sym run) ((state_at_lem _ rule.states (record { start = true; accepting = true }) l.accepting).0 l.accepts).0
@@ -62,7 +62,7 @@ live_below rule well q l = go l.u (live-there rule q l)
 
 -- so it is below 32, and a number past the states is dead
 pub live_small : (rule : Rule) → WellFormed rule → (q : ℕ) → Live rule q → q < 32
-live_small rule well q l = omega (arith, live_below rule well q l, well.few-states)
+live_small rule well q l = omega (arith, live_below rule well q l, well.few_states)
 
 pub past_dead : (rule : Rule) → WellFormed rule → (q : ℕ) → length rule.states ≤ q → Dead rule q
 past_dead rule well q past l = let below = live_below rule well q l in let no_way : ⊥ = omega (arith, past, below) in no_way

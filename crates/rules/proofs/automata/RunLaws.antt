@@ -43,21 +43,21 @@ one_run rule q e r h = subst (λ (p : ℕ). Step rule q e p) h.2 h.1
 -- ---- a state with a run to a live state is live, and an ending is a run to a live state
 
 -- a live state's own run to an accepting state
-pub live-there : (rule : Rule) (q : ℕ) (l : Live rule q) → Run rule q l.u l.accepting
-live-there rule q l = subst (λ (s : ℕ). Run rule s l.u l.accepting) l.begins l.there
+pub live_there : (rule : Rule) (q : ℕ) (l : Live rule q) → Run rule q l.u l.accepting
+live_there rule q l = subst (λ (s : ℕ). Run rule s l.u l.accepting) l.begins l.there
 
 pub live_back : (rule : Rule) (q : ℕ) (es : List ℕ) (r : ℕ) → AllByRecursion (Event rule) es → Run rule q es r → Live rule r → Live rule q
 live_back rule q es r ok run l = record {
   u = es ++ l.u;
   v = l.v;
-  u-events = all_++ (Event rule) es l.u ok l.u-events;
-  v-events = l.v-events;
+  u_events = all_++ (Event rule) es l.u ok l.u_events;
+  v_events = l.v_events;
   v_turns = l.v_turns;
   start = q;
   accepting = l.accepting;
   begins = refl;
   accepts = l.accepts;
-  there = run_++ rule q es l.u r l.accepting run (live-there rule r l);
+  there = run_++ rule q es l.u r l.accepting run (live_there rule r l);
   round = l.round;
 }
 
@@ -72,8 +72,8 @@ ending_reaches rule es e =
         record {
           u = e.u;
           v = e.v;
-          u-events = e.u-events;
-          v-events = e.v-events;
+          u_events = e.u_events;
+          v_events = e.v_events;
           v_turns = e.v_turns;
           start = cut.0;
           accepting = e.accepting;
@@ -89,14 +89,14 @@ pub reaches_ending : (rule : Rule) (es : List ℕ) → ReachesLive rule es → E
 reaches_ending rule es (s, st, (q, run, l)) = record {
   u = l.u;
   v = l.v;
-  u-events = l.u-events;
-  v-events = l.v-events;
+  u_events = l.u_events;
+  v_events = l.v_events;
   v_turns = l.v_turns;
   start = s;
   accepting = l.accepting;
   begins = st;
   accepts = l.accepts;
-  there = run_++ rule s es l.u q l.accepting run (live-there rule q l);
+  there = run_++ rule s es l.u q l.accepting run (live_there rule q l);
   round = l.round;
 }
 
@@ -105,8 +105,8 @@ pub ending_back : (rule : Rule) (es more : List ℕ) → AllByRecursion (Event r
 ending_back rule es more ok e = record {
   u = more ++ e.u;
   v = e.v;
-  u-events = all_++ (Event rule) more e.u ok e.u-events;
-  v-events = e.v-events;
+  u_events = all_++ (Event rule) more e.u ok e.u_events;
+  v_events = e.v_events;
   v_turns = e.v_turns;
   start = e.start;
   accepting = e.accepting;

@@ -26,13 +26,13 @@ use Rattle.rules.specs.watch.Calls as C
 use Rattle.rules.specs.watch.Promises.{FittedAll, Promise}
 use Rattle.events.proofs.SetLaws.{∈_none, ∈_below}
 use Rattle.rules.proofs.automata.RuleLaws.{live_below}
-use Rattle.rules.proofs.automata.PruningLaws.{selected-wanted}
+use Rattle.rules.proofs.automata.PruningLaws.{selected_wanted}
 use Rattle.events.proofs.CellLaws.{covers_is}
 use Rattle.rules.proofs.trees.MeasureLaws.{expected_lawful, worst_lawful}
-use Rattle.rules.proofs.trees.BestLaws.{best-fitted, best-costs}
+use Rattle.rules.proofs.trees.BestLaws.{best_fitted, best_costs}
 use Rattle.rules.proofs.trees.BestComputed.{fill, cost_in, line_in, fill_bests, build, built}
 use Rattle.rules.proofs.watch.VerdictLaws.{is_breach}
-use Rattle.rules.proofs.watch.PromiseLaws.{fitted_sound, settled_open, reads_open, reads_breach, armed, taken, take-breached, take-taken, tried_none, tried_more, rehearse_breach_found, rehearse_not_an_event}
+use Rattle.rules.proofs.watch.PromiseLaws.{fitted_sound, settled_open, reads_open, reads_breach, armed, taken, take_breached, take_taken, tried_none, tried_more, rehearse_breach_found, rehearse_not_an_event}
 
 abbrev line : ℕ → ℕ → Line
 line c p = record { cost = c; chance = p }
@@ -72,7 +72,7 @@ rises (suc (suc (suc (suc (suc (suc k)))))) l d = absurd (let no_way : ⊥ = ome
 
 pub worked_well : WellFormed worked
 worked_well = record {
-  six-lines = refl;
+  six_lines = refl;
   lines_fit = (
     fits 10 20 (lit≤ tt) (lit≤ tt) (lit≤ tt),
     (
@@ -83,11 +83,11 @@ worked_well = record {
       ),
     ),
   );
-  some-state = lit≤ tt;
-  few-states = lit≤ tt;
-  some-start = (0, tt);
-  few-moves = lit≤ tt;
-  moves-fit = (
+  some_state = lit≤ tt;
+  few_states = lit≤ tt;
+  some_start = (0, tt);
+  few_moves = lit≤ tt;
+  moves_fit = (
     goes 0 1 1 (lit≤ tt) (lit≤ tt) (lit≤ tt),
     (
       goes 0 5 2 (lit≤ tt) (lit≤ tt) (lit≤ tt),
@@ -118,8 +118,8 @@ live_at : (q : ℕ) → Accepts worked q → Run worked q (8 ∷ []) q → Live 
 live_at q acc round = record {
   u = [];
   v = 8 ∷ [];
-  u-events = tt;
-  v-events = (lit≤ tt, tt);
+  u_events = tt;
+  v_events = (lit≤ tt, tt);
   v_turns = tt;
   start = q;
   accepting = q;
@@ -129,13 +129,13 @@ live_at q acc round = record {
   round = round;
 }
 
-worked-live : (q : ℕ) → q < 4 → Live worked q
+worked_live : (q : ℕ) → q < 4 → Live worked q
 unfolding covers has
-worked-live zero l = record {
+worked_live zero l = record {
   u = 1 ∷ [];
   v = 8 ∷ [];
-  u-events = (lit≤ tt, tt);
-  v-events = (lit≤ tt, tt);
+  u_events = (lit≤ tt, tt);
+  v_events = (lit≤ tt, tt);
   v_turns = tt;
   start = 0;
   accepting = 1;
@@ -144,10 +144,10 @@ worked-live zero l = record {
   there = (1, inl (refl, covered 1 1 tt, refl), refl);
   round = (1, inr (inr (inr (inr (inl (refl, covered 27 8 tt, refl))))), refl);
 }
-worked-live (suc zero) l = live_at 1 tt (1, inr (inr (inr (inr (inl (refl, covered 27 8 tt, refl))))), refl)
-worked-live (suc (suc zero)) l = live_at 2 tt (2, inr (inr (inr (inr (inr (inl (refl, covered 27 8 tt, refl)))))), refl)
-worked-live (suc (suc (suc zero))) l = live_at 3 tt (3, inr (inr (inr (inr (inr (inr (inl (refl, covered 27 8 tt, refl))))))), refl)
-worked-live (suc (suc (suc (suc q)))) l = absurd (let no_way : ⊥ = omega arith in no_way)
+worked_live (suc zero) l = live_at 1 tt (1, inr (inr (inr (inr (inl (refl, covered 27 8 tt, refl))))), refl)
+worked_live (suc (suc zero)) l = live_at 2 tt (2, inr (inr (inr (inr (inr (inl (refl, covered 27 8 tt, refl)))))), refl)
+worked_live (suc (suc (suc zero))) l = live_at 3 tt (3, inr (inr (inr (inr (inr (inr (inl (refl, covered 27 8 tt, refl))))))), refl)
+worked_live (suc (suc (suc (suc q)))) l = absurd (let no_way : ⊥ = omega arith in no_way)
 
 -- at event 0 only state 0 has a move, and it leads to state 1
 step_at_0 : (q r : ℕ) → Step worked q 0 r → (0 ≡ q) × (1 ≡ r)
@@ -175,10 +175,10 @@ four (suc (suc zero)) l = tt
 four (suc (suc (suc zero))) l = tt
 four (suc (suc (suc (suc q)))) l = absurd (let no_way : ⊥ = omega arith in no_way)
 
-pub worked-kinds : Kinds worked 15 0 0
-worked-kinds = record {
+pub worked_kinds : Kinds worked 15 0 0
+worked_kinds = record {
   small = lit≤ tt;
-  live_is = λ q. ((λ h. worked-live q (∈_below 4 q 15 (lit≤ tt) h)), (λ l. four q (live_below worked worked_well q l)));
+  live_is = λ q. ((λ h. worked_live q (∈_below 4 q 15 (lit≤ tt) h)), (λ l. four q (live_below worked worked_well q l)));
   safe_is = λ q. ((λ h. absurd (∈_none q h)), (λ s. absurd (worked_unsafe q s)));
   release_is = λ q s. absurd (worked_unsafe q s);
 }
@@ -191,7 +191,7 @@ wants q e = selected (pruned_moves worked 15 0 0 q) e
 
 wanted : (q : ℕ) → Wants worked q (wants q)
 unfolding wants
-wanted q = selected-wanted worked 15 0 0 worked-kinds q
+wanted q = selected_wanted worked 15 0 0 worked_kinds q
 
 module _ (price : Price) (law : Lawful price) (q : ℕ) (t : Tree) (is-built : build price worked.lines (wants q) (fill price worked.lines (wants q) 729) 6 0 ≡ t) where
   best : BestTree (wants q) (line_in price worked.lines (wants q) (fill price worked.lines (wants q) 729)) 0 t
@@ -199,8 +199,8 @@ module _ (price : Price) (law : Lawful price) (q : ℕ) (t : Tree) (is-built : b
 
   -- the tree that the table gives is the fitted one, at its own cost
   built_fitted : Fitted price worked q t (cost_of price worked.lines 6 t)
-  built_fitted = subst (Fitted price worked q t) (sym (best-costs price worked q (wants q) costs chosen law worked_well (wanted q) bests t best))
-      (best-fitted price worked q (wants q) costs chosen law worked_well (wanted q) bests t best)
+  built_fitted = subst (Fitted price worked q t) (sym (best_costs price worked q (wants q) costs chosen law worked_well (wanted q) bests t best))
+      (best_fitted price worked q (wants q) costs chosen law worked_well (wanted q) bests t best)
     where
       costs : ℕ → ℕ
       costs = cost_in price worked.lines (wants q) (fill price worked.lines (wants q) 729)
@@ -242,51 +242,51 @@ unfolding fill wants has set_of covers lowest free_in
 worst_built = refl
 
 -- by expected cost the first state's tree costs 30 times 10 ^ 12, and forks on line 1 first
-pub expected-fitted : Fitted expected worked 0 by_expected_lem 30000000000000
-expected-fitted = built_fitted expected expected_lawful 0 by_expected_lem expected_built_0
+pub expected_fitted : Fitted expected worked 0 by_expected_lem 30000000000000
+expected_fitted = built_fitted expected expected_lawful 0 by_expected_lem expected_built_0
 
 -- by worst cost it costs 35, and forks on line 0 first
-pub worst-fitted : Fitted worst worked 0 by_worst_lem 35
-worst-fitted = built_fitted worst worst_lawful 0 by_worst_lem worst_built
+pub worst_fitted : Fitted worst worked 0 by_worst_lem 35
+worst_fitted = built_fitted worst worst_lawful 0 by_worst_lem worst_built
 
-abbrev pub worked-trees : List Tree
-worked-trees = by_expected_lem ∷ kept_by_3 2 ∷ kept_by_3 4 ∷ kept_by_3 8 ∷ []
+abbrev pub worked_trees : List Tree
+worked_trees = by_expected_lem ∷ kept_by_3 2 ∷ kept_by_3 4 ∷ kept_by_3 8 ∷ []
 
-abbrev pub worked-costs : List ℕ
-worked-costs = 30000000000000 ∷ 1000000000000 ∷ 1000000000000 ∷ 1000000000000 ∷ []
+abbrev pub worked_costs : List ℕ
+worked_costs = 30000000000000 ∷ 1000000000000 ∷ 1000000000000 ∷ 1000000000000 ∷ []
 
-pub worked-fitted : FittedAll expected worked worked-trees worked-costs
-worked-fitted = record { a_tree_each = refl; a_cost_each = refl; fitted = each }
+pub worked_fitted : FittedAll expected worked worked_trees worked_costs
+worked_fitted = record { a_tree_each = refl; a_cost_each = refl; fitted = each }
   where
-    each : (q : ℕ) → q < 4 → Fitted expected worked q (tree_of worked-trees q) (get_or worked-costs q 0)
-    each zero l = expected-fitted
+    each : (q : ℕ) → q < 4 → Fitted expected worked q (tree_of worked_trees q) (get_or worked_costs q 0)
+    each zero l = expected_fitted
     each (suc zero) l = built_fitted expected expected_lawful 1 (kept_by_3 2) expected_built_1
     each (suc (suc zero)) l = built_fitted expected expected_lawful 2 (kept_by_3 4) expected_built_2
     each (suc (suc (suc zero))) l = built_fitted expected expected_lawful 3 (kept_by_3 8) expected_built_3
     each (suc (suc (suc (suc q)))) l = absurd (let no_way : ⊥ = omega arith in no_way)
 
 -- the trees take 20 nodes, and the first state's stand as a fork first, then its on part, then its off part
-pub worked_size : length (layout worked-trees) ≡ 20
+pub worked_size : length (layout worked_trees) ≡ 20
 worked_size = refl
 
-pub worked-nodes : take 11 (layout worked-trees)
+pub worked_nodes : take 11 (layout worked_trees)
     ≡ node.Fork 1 1 8 ∷ node.Fork 0 2 5 ∷ node.Fork 2 3 4 ∷ node.Leaf 10 ∷ node.Leaf 2 ∷ node.Fork 2 6 7 ∷ node.Leaf 12 ∷ node.Leaf 4 ∷ node.Fork 2 9 10 ∷ node.Leaf 10 ∷ node.Leaf 2 ∷ []
-worked-nodes = refl
+worked_nodes = refl
 
-pub worked_sound : Sound worked worked-trees
-worked_sound = fitted_sound expected worked worked-trees worked-costs worked_well (λ q. inr (worked_unsafe q)) worked-fitted
+pub worked_sound : Sound worked worked_trees
+worked_sound = fitted_sound expected worked worked_trees worked_costs worked_well (λ q. inr (worked_unsafe q)) worked_fitted
 
 -- ---- a watch over the events 5, 8, 0, 1
 
 no_release : ReleaseSet worked 0
 no_release = inr ((λ r rel. worked_unsafe r rel.0), refl)
 
-worked-start : StartSet worked 1
+worked_start : StartSet worked 1
 unfolding has
-worked-start = record { small = lit≤ tt; members = λ t. (fwd t, (λ (s, st, stands). bwd t s st stands)) }
+worked_start = record { small = lit≤ tt; members = λ t. (fwd t, (λ (s, st, stands). bwd t s st stands)) }
   where
     fwd : (t : ℕ) → t ∈ 1 → (s : ℕ) × Starts worked s × StandsFor worked s t
-    fwd t h = let low = ∈_below 1 t 1 (lit≤ tt) h in let z : t ≡ 0 = omega arith in (0, tt, (worked-live 0 (lit≤ tt), inl (worked_unsafe 0, z)))
+    fwd t h = let low = ∈_below 1 t 1 (lit≤ tt) h in let z : t ≡ 0 = omega arith in (0, tt, (worked_live 0 (lit≤ tt), inl (worked_unsafe 0, z)))
 
     bwd : (t s : ℕ) → Starts worked s → StandsFor worked s t → t ∈ 1
     bwd t zero st (live, inl (unsafe, z)) = subst (λ (k : ℕ). k ∈ 1) (sym z) tt
@@ -306,49 +306,49 @@ still_open count set some = reads_open worked 0 no_release count set some (and_z
 not_open : IsBreach verdict.Open → ⊥
 not_open (j, e) = is_breach verdict.Open j e
 
-after_none : Watches worked worked-trees [] 1 verdict.Open
-after_none = armed worked worked-trees 1 1 verdict.Open worked-start (kept 1) (still_open 0 1 (suc-ne-zero 0))
+after_none : Watches worked worked_trees [] 1 verdict.Open
+after_none = armed worked worked_trees 1 1 verdict.Open worked_start (kept 1) (still_open 0 1 (suc-ne-zero 0))
 
-after_5 : Watches worked worked-trees (5 ∷ []) 10 verdict.Open
+after_5 : Watches worked worked_trees (5 ∷ []) 10 verdict.Open
 unfolding union_over has
-after_5 = taken worked worked-trees [] 1 verdict.Open 5 10 verdict.Open after_none (kept 10) (still_open 1 10 (suc-ne-zero 9))
+after_5 = taken worked worked_trees [] 1 verdict.Open 5 10 verdict.Open after_none (kept 10) (still_open 1 10 (suc-ne-zero 9))
 
-after_5_8 : Watches worked worked-trees (5 ∷ 8 ∷ []) 10 verdict.Open
+after_5_8 : Watches worked worked_trees (5 ∷ 8 ∷ []) 10 verdict.Open
 unfolding union_over has
-after_5_8 = taken worked worked-trees (5 ∷ []) 10 verdict.Open 8 10 verdict.Open after_5 (kept 10) (still_open 2 10 (suc-ne-zero 9))
+after_5_8 = taken worked worked_trees (5 ∷ []) 10 verdict.Open 8 10 verdict.Open after_5 (kept 10) (still_open 2 10 (suc-ne-zero 9))
 
-after_5_8_0 : Watches worked worked-trees (5 ∷ 8 ∷ 0 ∷ []) 0 (verdict.BreachAt 3)
+after_5_8_0 : Watches worked worked_trees (5 ∷ 8 ∷ 0 ∷ []) 0 (verdict.BreachAt 3)
 unfolding union_over has
-after_5_8_0 = taken worked worked-trees (5 ∷ 8 ∷ []) 10 verdict.Open 0 0 (verdict.BreachAt 3) after_5_8 (kept 0) (reads_breach worked 0 no_release 3)
+after_5_8_0 = taken worked worked_trees (5 ∷ 8 ∷ []) 10 verdict.Open 0 0 (verdict.BreachAt 3) after_5_8 (kept 0) (reads_breach worked 0 no_release 3)
 
 -- four takes: OPEN, OPEN, BREACH at 3, and a refusal; they poll lines 1 and 2, then line 3, then line 3
-pub worked_calls : Promise expected worked worked-trees worked-costs (call.Take ∷ call.Take ∷ call.Take ∷ call.Take ∷ []) (5 ∷ 8 ∷ 0 ∷ 1 ∷ [])
+pub worked_calls : Promise expected worked worked_trees worked_costs (call.Take ∷ call.Take ∷ call.Take ∷ call.Take ∷ []) (5 ∷ 8 ∷ 0 ∷ 1 ∷ [])
     (answer.Taken verdict.Open 6 ∷ answer.Taken verdict.Open 8 ∷ answer.Taken (verdict.BreachAt 3) 8 ∷ answer.Refused refusal.Breached ∷ []) (1 ∷ [])
 unfolding union_over has
 worked_calls = record {
-  fit = worked-fitted;
+  fit = worked_fitted;
   taken = 5 ∷ 8 ∷ 0 ∷ [];
   answered =
-      C.CallsAll.one_more (take-taken worked worked-trees worked_sound [] 1 verdict.Open after_none 5 (8 ∷ 0 ∷ 1 ∷ []) 10 verdict.Open not_open (lit≤ tt) (kept 10) (still_open 1 10 (suc-ne-zero 9)))
-      (C.CallsAll.one_more (take-taken worked worked-trees worked_sound (5 ∷ []) 10 verdict.Open after_5 8 (0 ∷ 1 ∷ []) 10 verdict.Open not_open (lit≤ tt) (kept 10) (still_open 2 10 (suc-ne-zero 9)))
-      (C.CallsAll.one_more (take-taken worked worked-trees worked_sound (5 ∷ 8 ∷ []) 10 verdict.Open after_5_8 0 (1 ∷ []) 0 (verdict.BreachAt 3) not_open (lit≤ tt) (kept 0) (reads_breach worked 0 no_release 3))
-      (C.CallsAll.one_more (take-breached worked worked-trees worked_sound (5 ∷ 8 ∷ 0 ∷ []) 0 (verdict.BreachAt 3) after_5_8_0 (1 ∷ []) (3, refl))
+      C.CallsAll.one_more (take_taken worked worked_trees worked_sound [] 1 verdict.Open after_none 5 (8 ∷ 0 ∷ 1 ∷ []) 10 verdict.Open not_open (lit≤ tt) (kept 10) (still_open 1 10 (suc-ne-zero 9)))
+      (C.CallsAll.one_more (take_taken worked worked_trees worked_sound (5 ∷ []) 10 verdict.Open after_5 8 (0 ∷ 1 ∷ []) 10 verdict.Open not_open (lit≤ tt) (kept 10) (still_open 2 10 (suc-ne-zero 9)))
+      (C.CallsAll.one_more (take_taken worked worked_trees worked_sound (5 ∷ 8 ∷ []) 10 verdict.Open after_5_8 0 (1 ∷ []) 0 (verdict.BreachAt 3) not_open (lit≤ tt) (kept 0) (reads_breach worked 0 no_release 3))
+      (C.CallsAll.one_more (take_breached worked worked_trees worked_sound (5 ∷ 8 ∷ 0 ∷ []) 0 (verdict.BreachAt 3) after_5_8_0 (1 ∷ []) (3, refl))
       C.CallsAll.no_more)));
 }
 
 -- after event 5, rehearsing 8, 0, 64 finds a breach after 2 events
-pub worked_rehearsal : (coming : List ℕ) → Rehearsing worked worked-trees (5 ∷ []) coming (8 ∷ 0 ∷ 64 ∷ []) (answer.Tried word.Breach 2) (5 ∷ []) coming
+pub worked_rehearsal : (coming : List ℕ) → Rehearsing worked worked_trees (5 ∷ []) coming (8 ∷ 0 ∷ 64 ∷ []) (answer.Tried word.Breach 2) (5 ∷ []) coming
 unfolding union_over has
 worked_rehearsal coming =
-    let t0 = tried_none worked worked-trees worked_sound (5 ∷ []) (8 ∷ 0 ∷ 64 ∷ []) 10 verdict.Open after_5 not_open in
-    let t1 = tried_more worked worked-trees worked_sound (5 ∷ []) (8 ∷ 0 ∷ 64 ∷ []) 0 10 verdict.Open t0 10 verdict.Open not_open (lit≤ tt) (lit≤ tt) (kept 10) (still_open 2 10 (suc-ne-zero 9)) in
-    let t2 = tried_more worked worked-trees worked_sound (5 ∷ []) (8 ∷ 0 ∷ 64 ∷ []) 1 10 verdict.Open t1 0 (verdict.BreachAt 3) not_open (lit≤ tt) (lit≤ tt) (kept 0) (reads_breach worked 0 no_release 3) in
-    rehearse_breach_found worked worked-trees worked_sound (5 ∷ []) (8 ∷ 0 ∷ 64 ∷ []) 2 0 (verdict.BreachAt 3) t2 coming (3, refl)
+    let t0 = tried_none worked worked_trees worked_sound (5 ∷ []) (8 ∷ 0 ∷ 64 ∷ []) 10 verdict.Open after_5 not_open in
+    let t1 = tried_more worked worked_trees worked_sound (5 ∷ []) (8 ∷ 0 ∷ 64 ∷ []) 0 10 verdict.Open t0 10 verdict.Open not_open (lit≤ tt) (lit≤ tt) (kept 10) (still_open 2 10 (suc-ne-zero 9)) in
+    let t2 = tried_more worked worked_trees worked_sound (5 ∷ []) (8 ∷ 0 ∷ 64 ∷ []) 1 10 verdict.Open t1 0 (verdict.BreachAt 3) not_open (lit≤ tt) (lit≤ tt) (kept 0) (reads_breach worked 0 no_release 3) in
+    rehearse_breach_found worked worked_trees worked_sound (5 ∷ []) (8 ∷ 0 ∷ 64 ∷ []) 2 0 (verdict.BreachAt 3) t2 coming (3, refl)
 
 -- and rehearsing 8, 64 is refused at index 1
-pub worked_refusal : (coming : List ℕ) → Rehearsing worked worked-trees (5 ∷ []) coming (8 ∷ 64 ∷ []) (answer.Refused (refusal.NoEvent 1)) (5 ∷ []) coming
+pub worked_refusal : (coming : List ℕ) → Rehearsing worked worked_trees (5 ∷ []) coming (8 ∷ 64 ∷ []) (answer.Refused (refusal.NoEvent 1)) (5 ∷ []) coming
 unfolding union_over has
 worked_refusal coming =
-    let t0 = tried_none worked worked-trees worked_sound (5 ∷ []) (8 ∷ 64 ∷ []) 10 verdict.Open after_5 not_open in
-    let t1 = tried_more worked worked-trees worked_sound (5 ∷ []) (8 ∷ 64 ∷ []) 0 10 verdict.Open t0 10 verdict.Open not_open (lit≤ tt) (lit≤ tt) (kept 10) (still_open 2 10 (suc-ne-zero 9)) in
-    rehearse_not_an_event worked worked-trees worked_sound (5 ∷ []) (8 ∷ 64 ∷ []) 1 10 verdict.Open t1 coming not_open (lit≤ tt) (lit≤ tt)
+    let t0 = tried_none worked worked_trees worked_sound (5 ∷ []) (8 ∷ 64 ∷ []) 10 verdict.Open after_5 not_open in
+    let t1 = tried_more worked worked_trees worked_sound (5 ∷ []) (8 ∷ 64 ∷ []) 0 10 verdict.Open t0 10 verdict.Open not_open (lit≤ tt) (lit≤ tt) (kept 10) (still_open 2 10 (suc-ne-zero 9)) in
+    rehearse_not_an_event worked worked_trees worked_sound (5 ∷ []) (8 ∷ 64 ∷ []) 1 10 verdict.Open t1 coming not_open (lit≤ tt) (lit≤ tt)

@@ -7,10 +7,10 @@ use Rattle.rules.specs.trees.Trees.{Tree, leaf, fork}
 use Rattle.rules.specs.trees.Costs.{Price}
 use Rattle.rules.specs.trees.Bests.{Constant, fork_price, Bests, BestTree}
 use Rattle.events.proofs.SetLaws.{true_T, false_T}
-use Rattle.events.proofs.CellLaws.{covers_is, lowest-small, lowest-covered, free_le}
-use Rattle.rules.proofs.trees.ConstantLaws.{full-constant}
+use Rattle.events.proofs.CellLaws.{covers_is, lowest_small, lowest-covered, free_le}
+use Rattle.rules.proofs.trees.ConstantLaws.{full_constant}
 use Rattle.rules.proofs.trees.BestLaws.{on_below, off_below}
-use Rattle.rules.proofs.trees.BestTable.{Least, Entry, From, from_all, from_step, entry-constant, entry-forked, same_price, varies_free}
+use Rattle.rules.proofs.trees.BestTable.{Least, Entry, From, from_all, from_step, entry_constant, entry_forked, same_price, varies_free}
 
 -- ---- the lowest place of the least value
 
@@ -133,7 +133,7 @@ same_is wants cell v (suc n) = (
 constant_is : (wants : ℕ → ℕ) (cell : ℕ) → T (is_constant wants cell) ↔ Constant wants cell
 constant_is wants cell = (
   (λ h a b la lb ca cb. let all = (same_is wants cell (wants (lowest cell)) 64).0 h in all a la ca ∙ sym (all b lb cb)),
-  (λ h. (same_is wants cell (wants (lowest cell)) 64).1 (λ e l c. h e (lowest cell) l (lowest-small cell) c (lowest-covered cell))),
+  (λ h. (same_is wants cell (wants (lowest cell)) 64).1 (λ e l c. h e (lowest cell) l (lowest_small cell) c (lowest-covered cell))),
 )
 
 -- ---- the table
@@ -185,8 +185,8 @@ module _ (price : Price) (lines : List Line) (wants : ℕ → ℕ) where
       go : (b : Bool) → is_constant wants cell ≡ b
           → best cell ≡ (whole b).cost → line cell ≡ (whole b).line
           → Entry price lines wants best line cell
-      go true p z x = entry-constant price lines wants best line cell ((constant_is wants cell).0 (true_T (is_constant wants cell) p)) z
-      go false p cost chose = entry-forked price lines wants best line cell varies least (cost ∙ (prices i ∙ ap (fork_price price lines best cell) (sym chose)))
+      go true p z x = entry_constant price lines wants best line cell ((constant_is wants cell).0 (true_T (is_constant wants cell) p)) z
+      go false p cost chose = entry_forked price lines wants best line cell varies least (cost ∙ (prices i ∙ ap (fork_price price lines best cell) (sym chose)))
         where
           i : ℕ
           i = least_below (fork_price price lines (after cell later) cell) (λ i. eqb (digit cell i) 0) 6
@@ -272,11 +272,11 @@ module _ (price : Price) (lines : List Line) (wants : ℕ → ℕ) where
     | false ↦ (λ (i : ℕ). fork i (build table u (on_cell cell i)) (build table u (off_cell cell i))) (get_or table cell nothing).line
   ]
 
-  constant-leaf : (line : ℕ → ℕ) (cell : ℕ) → Constant wants cell → BestTree wants line cell (leaf (wants (lowest cell)))
-  constant-leaf line cell c e l cov = c e (lowest cell) l (lowest-small cell) cov (lowest-covered cell)
+  constant_leaf : (line : ℕ → ℕ) (cell : ℕ) → Constant wants cell → BestTree wants line cell (leaf (wants (lowest cell)))
+  constant_leaf line cell c e l cov = c e (lowest cell) l (lowest_small cell) cov (lowest-covered cell)
 
   build_best : (table : List Best) → Bests price lines wants (cost_in table) (line_in table) → (u cell : ℕ) → cell < 729 → free_in cell ≤ u → BestTree wants (line_in table) cell (build table u cell)
-  build_best table bests zero cell l few = constant-leaf (line_in table) cell (full-constant wants cell (omega arith))
+  build_best table bests zero cell l few = constant_leaf (line_in table) cell (full_constant wants cell (omega arith))
   build_best table bests (suc u) cell l few = go (is_constant wants cell) refl (build_best table bests u)
     where
       whole : Bool → Tree
@@ -287,7 +287,7 @@ module _ (price : Price) (lines : List Line) (wants : ℕ → ℕ) where
 
       go : (b : Bool) → is_constant wants cell ≡ b → ((cell : ℕ) → cell < 729 → free_in cell ≤ u → BestTree wants (line_in table) cell (build table u cell))
           → BestTree wants (line_in table) cell (whole b)
-      go true p ih = constant-leaf (line_in table) cell ((constant_is wants cell).0 (true_T (is_constant wants cell) p))
+      go true p ih = constant_leaf (line_in table) cell ((constant_is wants cell).0 (true_T (is_constant wants cell) p))
       go false p ih =
           let varies : Constant wants cell → ⊥ = λ c. false_T (is_constant wants cell) p ((constant_is wants cell).1 c) in
           let free = (bests.forked cell l varies).0.free in

@@ -15,7 +15,7 @@ use Rattle.events.proofs.SetLaws.{T_true, true_T, ∈-or, ∈_one, ∈_one_is, �
 use Rattle.rules.proofs.automata.RuleLaws.{line_in_range}
 use Rattle.rules.proofs.automata.PruningLaws.{pruned_one}
 use Rattle.rules.proofs.trees.MeanCost.{mean_trillionfold}
-use Rattle.events.proofs.CellLaws.{digit_at, digit_other, cell_below, covers_up, covers-line, covers_down, covers_all, free_below, free_le, free-whole}
+use Rattle.events.proofs.CellLaws.{digit_at, digit_other, cell_below, covers_up, covers-line, covers_down, covers_all, free_below, free_le, free_whole}
 
 low_zero : (n : ℕ) → 0 ≤ n
 low_zero n = omega arith
@@ -153,18 +153,18 @@ lower price lines wants best line law range bests (fork i on off) cell above l p
 
 -- ---- the best tree is right, polls no line twice, and costs the best cost
 
-best-constant : (wants line : ℕ → ℕ) (cell set : ℕ) → BestTree wants line cell (leaf set) → Constant wants cell
-best-constant wants line cell set b a a' la la' ca ca' = b a la ca ∙ sym (b a' la' ca')
+best_constant : (wants line : ℕ → ℕ) (cell set : ℕ) → BestTree wants line cell (leaf set) → Constant wants cell
+best_constant wants line cell set b a a' la la' ca ca' = b a la ca ∙ sym (b a' la' ca')
 
-pub fork-free : (price : Price) (lines : List Line) (wants best line : ℕ → ℕ) → Bests price lines wants best line
+pub fork_free : (price : Price) (lines : List Line) (wants best line : ℕ → ℕ) → Bests price lines wants best line
     → (cell i : ℕ) (on off : Tree) → cell < 729 → BestTree wants line cell (fork i on off) → Free cell i
-fork-free price lines wants best line bests cell i on off l b = subst (Free cell) b.1 (bests.forked cell l b.0).0.free
+fork_free price lines wants best line bests cell i on off l b = subst (Free cell) b.1 (bests.forked cell l b.0).0.free
 
 pub best_right : (price : Price) (lines : List Line) (wants best line : ℕ → ℕ) → Bests price lines wants best line
     → (t : Tree) (cell : ℕ) → cell < 729 → BestTree wants line cell t → Right wants cell t
 best_right price lines wants best line bests (leaf set) cell l b e le c = sym (b e le c)
 best_right price lines wants best line bests (fork i on off) cell l b e le c =
-    let free = fork-free price lines wants best line bests cell i on off l b in
+    let free = fork_free price lines wants best line bests cell i on off l b in
     let on_b = on_below cell i l free in
     let off_b = off_below cell i l free in
     cond_both (has e i) (gives on e) (gives off e) (λ s. s ≡ wants e)
@@ -173,9 +173,9 @@ best_right price lines wants best line bests (fork i on off) cell l b e le c =
 
 pub best_cost : (price : Price) (lines : List Line) (wants best line : ℕ → ℕ) → Bests price lines wants best line
     → (t : Tree) (cell : ℕ) → cell < 729 → BestTree wants line cell t → cost_of price lines (free_in cell) t ≡ best cell
-best_cost price lines wants best line bests (leaf set) cell l b = sym (bests.constant cell l (best-constant wants line cell set b))
+best_cost price lines wants best line bests (leaf set) cell l b = sym (bests.constant cell l (best_constant wants line cell set b))
 best_cost price lines wants best line bests (fork i on off) cell l b =
-    let free = fork-free price lines wants best line bests cell i on off l b in
+    let free = fork_free price lines wants best line bests cell i on off l b in
     let on_b = on_below cell i l free in
     let off_b = off_below cell i l free in
     let P : ℕ → ℕ → ℕ → ℕ = price (line_of lines i).cost (line_of lines i).chance in
@@ -206,7 +206,7 @@ pub best_polls_once : (price : Price) (lines : List Line) (wants best line : ℕ
     → (t : Tree) (cell above : ℕ) → cell < 729 → Fixed above cell → BestTree wants line cell t → PollsOnce above t
 best_polls_once price lines wants best line bests (leaf set) cell above l fixed b = tt
 best_polls_once price lines wants best line bests (fork i on off) cell above l fixed b =
-    let free = fork-free price lines wants best line bests cell i on off l b in
+    let free = fork_free price lines wants best line bests cell i on off l b in
     let on_b = on_below cell i l free in
     let off_b = off_below cell i l free in (
       free.0,
@@ -219,8 +219,8 @@ best_polls_once price lines wants best line bests (fork i on off) cell above l f
 
 module _ (price : Price) (rule : Rule) (q : ℕ) (wants best line : ℕ → ℕ) (law : Lawful price) (well : WellFormed rule)
     (is-wanted : Wants rule q wants) (bests : Bests price rule.lines wants best line) where
-  pub best-cheapest : Cheapest price rule q (best 0)
-  best-cheapest other serves once = subst (λ (n : ℕ). best 0 ≤ cost_of price rule.lines n other) free-whole
+  pub best_cheapest : Cheapest price rule q (best 0)
+  best_cheapest other serves once = subst (λ (n : ℕ). best 0 ≤ cost_of price rule.lines n other) free_whole
       (lower price rule.lines wants best line law (line_in_range rule well) bests other 0 0 (lit≤ tt) once zeros
       (λ e l c. pruned_one rule q e (gives other e) (wants e) (serves e l) (is-wanted e l)))
     where
@@ -228,25 +228,25 @@ module _ (price : Price) (rule : Rule) (q : ℕ) (wants best line : ℕ → ℕ)
       zeros i l out = ap (λ (n : ℕ). n % 3) (native.Mathlib.Nat.zero-div (3 ^ i))
 
   module _ (t : Tree) (is_best : BestTree wants line 0 t) where
-    pub best-serves : Serves rule q t
-    best-serves e l = subst (IsPrunedSet rule q e) (sym (best_right price rule.lines wants best line bests t 0 (lit≤ tt) is_best e l (covers_all e))) (is-wanted e l)
+    pub best_serves : Serves rule q t
+    best_serves e l = subst (IsPrunedSet rule q e) (sym (best_right price rule.lines wants best line bests t 0 (lit≤ tt) is_best e l (covers_all e))) (is-wanted e l)
 
     pub best_once : PollsOnce 0 t
     best_once = best_polls_once price rule.lines wants best line bests t 0 0 (lit≤ tt) (λ i h. absurd (∈_none i h)) is_best
 
-    pub best-costs : cost_of price rule.lines 6 t ≡ best 0
-    best-costs = subst (λ (n : ℕ). cost_of price rule.lines n t ≡ best 0) free-whole (best_cost price rule.lines wants best line bests t 0 (lit≤ tt) is_best)
+    pub best_costs : cost_of price rule.lines 6 t ≡ best 0
+    best_costs = subst (λ (n : ℕ). cost_of price rule.lines n t ≡ best 0) free_whole (best_cost price rule.lines wants best line bests t 0 (lit≤ tt) is_best)
 
     pub best_tree_cheapest : Cheapest price rule q (cost_of price rule.lines 6 t)
-    best_tree_cheapest other serves once = subst (λ (n : ℕ). n ≤ cost_of price rule.lines 6 other) (sym best-costs) (best-cheapest other serves once)
+    best_tree_cheapest other serves once = subst (λ (n : ℕ). n ≤ cost_of price rule.lines 6 other) (sym best_costs) (best_cheapest other serves once)
 
     -- what fitting promises, from the table of best costs and lines and the tree written from it
-    pub best-fitted : Fitted price rule q t (best 0)
-    best-fitted = record {
+    pub best_fitted : Fitted price rule q t (best 0)
+    best_fitted = record {
       is_best = record { wants = wants; best = best; line = line; wanted = is-wanted; bests = bests; tree = is_best };
-      serves = best-serves;
+      serves = best_serves;
       polls_once = best_once;
-      costs = sym best-costs;
-      cheapest = best-cheapest;
-      mean = λ same. subst (IsTrillionfold (mean_cost rule.lines t)) (sym (ap (λ (m : Price). cost_of m rule.lines 6 t) same) ∙ best-costs) (mean_trillionfold rule.lines t best_once);
+      costs = sym best_costs;
+      cheapest = best_cheapest;
+      mean = λ same. subst (IsTrillionfold (mean_cost rule.lines t)) (sym (ap (λ (m : Price). cost_of m rule.lines 6 t) same) ∙ best_costs) (mean_trillionfold rule.lines t best_once);
     }

@@ -9,7 +9,7 @@ use Rattle.rules.specs.trees.Trees.{Tree, leaf, fork}
 use Rattle.rules.specs.trees.Costs.{Price}
 use Rattle.rules.specs.trees.Bests.{Constant, fork_price, LowestBest, Bests, BestTree}
 use Rattle.rules.proofs.trees.BestLaws.{on_below, off_below}
-use Rattle.rules.proofs.automata.MaskLaws.{covers-some}
+use Rattle.rules.proofs.automata.MaskLaws.{covers_some}
 
 module _ (price : Price) (lines : List Line) (wants best line best' line' : ℕ → ℕ) (bests : Bests price lines wants best line) (bests' : Bests price lines wants best' line') where
   -- the two agree in the cells below a cell
@@ -68,13 +68,13 @@ module _ (price : Price) (lines : List Line) (wants best line best' line' : ℕ 
       go (inr (inl h)) = absurd (let no_way : ⊥ = omega (arith, f'.0.lowest (line cell) h f.0.free, f.0.least (line' cell) f'.0.free, same (line cell) f.0.free, same (line' cell) f'.0.free) in no_way)
       go (inr (inr h)) = absurd (let no_way : ⊥ = omega (arith, f.0.lowest (line' cell) h f'.0.free, f'.0.least (line cell) f.0.free, same (line cell) f.0.free, same (line' cell) f'.0.free) in no_way)
 
-  constant-leaf : (ln : ℕ → ℕ) (cell set : ℕ) → BestTree wants ln cell (leaf set) → Constant wants cell
-  constant-leaf ln cell set b a a' la la' ca ca' = b a la ca ∙ sym (b a' la' ca')
+  constant_leaf : (ln : ℕ → ℕ) (cell set : ℕ) → BestTree wants ln cell (leaf set) → Constant wants cell
+  constant_leaf ln cell set b a a' la la' ca ca' = b a la ca ∙ sym (b a' la' ca')
 
   pub trees_one : (t t' : Tree) (cell : ℕ) → cell < 729 → BestTree wants line cell t → BestTree wants line' cell t' → t ≡ t'
-  trees_one (leaf s) (leaf s') cell l b b' = let (e, le, c) = covers-some cell in ap leaf (sym (b e le c) ∙ b' e le c)
-  trees_one (leaf s) (fork i on off) cell l b b' = absurd (b'.0 (constant-leaf line cell s b))
-  trees_one (fork i on off) (leaf s) cell l b b' = absurd (b.0 (constant-leaf line' cell s b'))
+  trees_one (leaf s) (leaf s') cell l b b' = let (e, le, c) = covers_some cell in ap leaf (sym (b e le c) ∙ b' e le c)
+  trees_one (leaf s) (fork i on off) cell l b b' = absurd (b'.0 (constant_leaf line cell s b))
+  trees_one (fork i on off) (leaf s) cell l b b' = absurd (b.0 (constant_leaf line' cell s b'))
   trees_one (fork i on off) (fork i' on' off') cell l b b' =
       let same : i ≡ i' = sym b.1 ∙ (lines_one cell l b.0 ∙ b'.1) in
       let free : Free cell i = subst (Free cell) b.1 (bests.forked cell l b.0).0.free in

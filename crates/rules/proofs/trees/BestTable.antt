@@ -8,7 +8,7 @@ use Rattle.events.specs.Cells.{digit, free_in, on_cell, off_cell}
 use Rattle.rules.specs.automata.Rules.{line_of}
 use Rattle.rules.specs.trees.Costs.{Price}
 use Rattle.rules.specs.trees.Bests.{Constant, fork_price, LowestBest, Bests}
-use Rattle.rules.proofs.trees.ConstantLaws.{full-constant, constant-decided}
+use Rattle.rules.proofs.trees.ConstantLaws.{full_constant, constant_decided}
 use Rattle.events.proofs.CellLaws.{free_none}
 
 -- ---- the lowest place of the least value
@@ -127,11 +127,11 @@ module _ (price : Price) (lines : List Line) (wants : ℕ → ℕ) where
       go (inr ne) = entry_kept best line best' line' cell (λ c lc. (same c (omega arith)).0) (same cell (omega arith)).1 (from cell l (omega arith))
 
   -- the entry to write: 0 where the cell is constant, and otherwise the least price and the lowest line that has it
-  pub entry-constant : (best line : ℕ → ℕ) (k : ℕ) → Constant wants k → best k ≡ 0 → Entry best line k
-  entry-constant best line k c z = record { constant = λ x. z; forked = λ varies. absurd (varies c) }
+  pub entry_constant : (best line : ℕ → ℕ) (k : ℕ) → Constant wants k → best k ≡ 0 → Entry best line k
+  entry_constant best line k c z = record { constant = λ x. z; forked = λ varies. absurd (varies c) }
 
-  pub entry-forked : (best line : ℕ → ℕ) (k : ℕ) → (Constant wants k → ⊥) → Least (fork_price price lines best k) (λ i. digit k i ≡ 0) 6 (line k) → best k ≡ fork_price price lines best k (line k) → Entry best line k
-  entry-forked best line k varies h cost = record {
+  pub entry_forked : (best line : ℕ → ℕ) (k : ℕ) → (Constant wants k → ⊥) → Least (fork_price price lines best k) (λ i. digit k i ≡ 0) 6 (line k) → best k ≡ fork_price price lines best k (line k) → Entry best line k
+  entry_forked best line k varies h cost = record {
     constant = λ c. absurd (varies c);
     forked = λ x. (record { free = (h.under, h.fits); least = λ j f. h.least j f.0 f.1; lowest = λ j l f. h.lowest j l f.1 }, cost);
   }
@@ -142,7 +142,7 @@ module _ (price : Price) (lines : List Line) (wants : ℕ → ℕ) where
     where
       go : ((i : ℕ) × Least f (λ i. digit k i ≡ 0) 6 i) ⊎ ((j : ℕ) → j < 6 → digit k j ≡ 0 → ⊥) → (i : ℕ) × Least f (λ i. digit k i ≡ 0) 6 i
       go (inl h) = h
-      go (inr none) = absurd (varies (full-constant wants k (free_none k none)))
+      go (inr none) = absurd (varies (full_constant wants k (free_none k none)))
 
   -- ---- the same for two arrays, written at place k
 
@@ -156,14 +156,14 @@ module _ (price : Price) (lines : List Line) (wants : ℕ → ℕ) where
   pub array_constant : (costs chosen : List ℕ) (k : ℕ) → k < length costs → From (k + 1) (at costs) (at chosen) → Constant wants k → From k (at (set costs k 0)) (at chosen)
   array_constant costs chosen k l from c = from_step k (at costs) (at chosen) (at (set costs k 0)) (at chosen) (from_suc k (at costs) (at chosen) from)
       (λ x lx. (get_or-set_other costs k x 0 0 (λ e. let no_way : ⊥ = omega arith in no_way), refl))
-      (entry-constant (at (set costs k 0)) (at chosen) k c (get_or-set_same costs k 0 0 l))
+      (entry_constant (at (set costs k 0)) (at chosen) k c (get_or-set_same costs k 0 0 l))
 
   -- any other cell: the least price and the lowest line that has it are written
   pub array_forked : (costs chosen : List ℕ) (k i : ℕ) → k < length costs → k < length chosen → From (k + 1) (at costs) (at chosen) → (Constant wants k → ⊥)
       → Least (fork_price price lines (at costs) k) (λ j. digit k j ≡ 0) 6 i → From k (at (set costs k (fork_price price lines (at costs) k i))) (at (set chosen k i))
   array_forked costs chosen k i lc lk from varies h = from_step k (at costs) (at chosen) best' line' (from_suc k (at costs) (at chosen) from)
       (λ x lx. (other_cost x lx, get_or-set_other chosen k x i 0 (λ e. let no_way : ⊥ = omega arith in no_way)))
-      (entry-forked best' line' k varies (subst (Least (fork_price price lines best' k) (λ j. digit k j ≡ 0) 6) (sym (get_or-set_same chosen k i 0 lk)) (record {
+      (entry_forked best' line' k varies (subst (Least (fork_price price lines best' k) (λ j. digit k j ≡ 0) 6) (sym (get_or-set_same chosen k i 0 lk)) (record {
         under = h.under;
         fits = h.fits;
         least = λ j l p. subst₂ (λ (x y : ℕ). x ≤ y) (prices i) (prices j) (h.least j l p);
@@ -196,14 +196,14 @@ module _ (price : Price) (lines : List Line) (wants : ℕ → ℕ) where
   put_other f k x c l = cond-false (eqb c k) x (f c) (ne_eqb c k (λ e. let no_way : ⊥ = omega arith in no_way))
 
   from_more : (k : ℕ) (best line : ℕ → ℕ) → From (suc k) best line → Constant wants k ⊎ (Constant wants k → ⊥) → (best' : ℕ → ℕ) × ((line' : ℕ → ℕ) × From k best' line')
-  from_more k best line from (inl c) = (put best k 0, (line, from_step k best line (put best k 0) line from (λ x l. (put_other best k 0 x l, refl)) (entry-constant (put best k 0) line k c (put_here best k 0))))
+  from_more k best line from (inl c) = (put best k 0, (line, from_step k best line (put best k 0) line from (λ x l. (put_other best k 0 x l, refl)) (entry_constant (put best k 0) line k c (put_here best k 0))))
   from_more k best line from (inr varies) =
       let (i, h) = varies_free (fork_price price lines best k) k varies in
       let cost = fork_price price lines best k i in
       (put best k cost, (put line k i, from_step k best line (put best k cost) (put line k i) from (λ x l. (put_other best k cost x l, put_other line k i x l)) (here i h)))
     where
       here : (i : ℕ) → Least (fork_price price lines best k) (λ i. digit k i ≡ 0) 6 i → Entry (put best k (fork_price price lines best k i)) (put line k i) k
-      here i h = entry-forked best' line' k varies (subst (Least (fork_price price lines best' k) (λ i. digit k i ≡ 0) 6) (sym (put_here line k i)) (record {
+      here i h = entry_forked best' line' k varies (subst (Least (fork_price price lines best' k) (λ i. digit k i ≡ 0) 6) (sym (put_here line k i)) (record {
         under = h.under;
         fits = h.fits;
         least = λ j l p. subst₂ (λ (x y : ℕ). x ≤ y) (prices i) (prices j) (h.least j l p);
@@ -222,7 +222,7 @@ module _ (price : Price) (lines : List Line) (wants : ℕ → ℕ) where
 
   down : (n k : ℕ) → n + k ≡ 729 → (best : ℕ → ℕ) × ((line : ℕ → ℕ) × From k best line)
   down zero k e = ((λ c. 0), ((λ c. 0), λ cell l lk. absurd (let no_way : ⊥ = omega arith in no_way)))
-  down (suc n) k e = let (best, (line, from)) = down n (suc k) (omega arith) in from_more k best line from (constant-decided wants k)
+  down (suc n) k e = let (best, (line, from)) = down n (suc k) (omega arith) in from_more k best line from (constant_decided wants k)
 
-  pub bests-some : (best : ℕ → ℕ) × ((line : ℕ → ℕ) × Bests price lines wants best line)
-  bests-some = let (best, (line, from)) = down 729 0 refl in (best, (line, from_all best line from))
+  pub bests_some : (best : ℕ → ℕ) × ((line : ℕ → ℕ) × Bests price lines wants best line)
+  bests_some = let (best, (line, from)) = down 729 0 refl in (best, (line, from_all best line from))

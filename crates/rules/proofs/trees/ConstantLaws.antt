@@ -2,12 +2,12 @@
 use Rattle.std.proofs.Common.{◌≡◌, ℕ, zero, suc, ◌<◌, ◌⊎◌, sym, ap, subst, inl, inr, not-suc-le-zero, arith}
 use Rattle.std.proofs.lemmas.Bool.{cases_eq}
 use Rattle.events.specs.Cells.{Covers, free_in}
-use Rattle.events.proofs.CellLaws.{single, covers-decided}
+use Rattle.events.proofs.CellLaws.{single, covers_decided}
 use Rattle.rules.specs.trees.Bests.{Constant}
 
 -- a cell with no free line covers one event, so it is constant
-pub full-constant : (wants : ℕ → ℕ) (cell : ℕ) → free_in cell ≡ 0 → Constant wants cell
-full-constant wants cell none a b la lb ca cb = ap wants (single cell a b none la lb ca cb)
+pub full_constant : (wants : ℕ → ℕ) (cell : ℕ) → free_in cell ≡ 0 → Constant wants cell
+full_constant wants cell none a b la lb ca cb = ap wants (single cell a b none la lb ca cb)
 
 -- ---- whether a cell is constant is decided
 
@@ -29,9 +29,9 @@ dec_implies (inl a) (inl b) = inl (λ x. b)
 dec_implies (inl a) (inr n) = inr (λ f. n (f a))
 dec_implies (inr n) d = inl (λ a. absurd (n a))
 
-pub constant-decided : (wants : ℕ → ℕ) (cell : ℕ) → Constant wants cell ⊎ (Constant wants cell → ⊥)
-constant-decided wants cell = go (dec_below (λ a. (b : ℕ) → b < 64 → Covers cell a → Covers cell b → wants a ≡ wants b)
-    (λ a. dec_below (λ b. Covers cell a → Covers cell b → wants a ≡ wants b) (λ b. dec_implies (covers-decided cell a) (dec_implies (covers-decided cell b) (cases_eq (wants a) (wants b)))) 64) 64)
+pub constant_decided : (wants : ℕ → ℕ) (cell : ℕ) → Constant wants cell ⊎ (Constant wants cell → ⊥)
+constant_decided wants cell = go (dec_below (λ a. (b : ℕ) → b < 64 → Covers cell a → Covers cell b → wants a ≡ wants b)
+    (λ a. dec_below (λ b. Covers cell a → Covers cell b → wants a ≡ wants b) (λ b. dec_implies (covers_decided cell a) (dec_implies (covers_decided cell b) (cases_eq (wants a) (wants b)))) 64) 64)
   where
     go : ((a : ℕ) → a < 64 → (b : ℕ) → b < 64 → Covers cell a → Covers cell b → wants a ≡ wants b) ⊎ (((a : ℕ) → a < 64 → (b : ℕ) → b < 64 → Covers cell a → Covers cell b → wants a ≡ wants b) → ⊥)
         → Constant wants cell ⊎ (Constant wants cell → ⊥)

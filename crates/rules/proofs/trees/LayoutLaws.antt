@@ -6,14 +6,14 @@ use Rattle.rules.specs.declared.Node.TheVariants as node
 use Rattle.rules.specs.trees.Trees.{Tree, leaf, fork, PollsOnce}
 use Rattle.rules.specs.trees.Layouts.{size_of, nodes_from, layout_from, layout, top_from, top_of, Stands}
 use Rattle.rules.specs.watch.Holding.{tree_of}
-use Rattle.rules.proofs.trees.MeanCost.{Depth, depth_of, free-few}
+use Rattle.rules.proofs.trees.MeanCost.{Depth, depth_of, free_few}
 
 -- ---- how many nodes
 
-pub nodes-length : (t : Tree) (place : ℕ) → length (nodes_from place t) ≡ size_of t
-nodes-length (leaf set) place = refl
-nodes-length (fork line on off) place =
-    ap suc (length-append (nodes_from (suc place) on) (nodes_from (suc place + size_of on) off) ∙ ap₂ (λ (x y : ℕ). x + y) (nodes-length on (suc place)) (nodes-length off (suc place + size_of on)))
+pub nodes_length : (t : Tree) (place : ℕ) → length (nodes_from place t) ≡ size_of t
+nodes_length (leaf set) place = refl
+nodes_length (fork line on off) place =
+    ap suc (length-append (nodes_from (suc place) on) (nodes_from (suc place + size_of on) off) ∙ ap₂ (λ (x y : ℕ). x + y) (nodes_length on (suc place)) (nodes_length off (suc place + size_of on)))
 
 size_depth : (t : Tree) (u : ℕ) → Depth u t → size_of t < 2 ^ suc u
 size_depth (leaf set) u d = omega (arith, Rattle.std.proofs.lemmas.Nat.pow_pos u, pow-suc 2 u)
@@ -22,7 +22,7 @@ size_depth (fork line on off) (suc u) d = omega (arith, size_depth on u d.0, siz
 
 -- a tree that polls no line twice takes at most 127 nodes
 pub size_small : (t : Tree) → PollsOnce 0 t → size_of t ≤ 127
-size_small t once = le_of_suc-le-suc (size_depth t 6 (depth_of t 6 0 once (free-few 6 0)))
+size_small t once = le_of_suc-le-suc (size_depth t 6 (depth_of t 6 0 once (free_few 6 0)))
 
 -- ---- a tree stands where its nodes are
 
@@ -66,25 +66,25 @@ nodes_stand (fork line on off) front rest place e = (
     on_stands h = subst (λ (l : List Node). Stands l (suc place) on) on_list h
 
     on_more : suc place + size_of on ≡ length ((front ++ top ∷ []) ++ ons)
-    on_more = omega (arith, length-append (front ++ top ∷ []) ons, one_more, nodes-length on (suc place))
+    on_more = omega (arith, length-append (front ++ top ∷ []) ons, one_more, nodes_length on (suc place))
 
     off_stands : Stands (((front ++ top ∷ []) ++ ons) ++ (offs ++ rest)) (suc place + size_of on) off → Stands (front ++ (top ∷ (ons ++ offs) ++ rest)) (suc place + size_of on) off
     off_stands h = subst (λ (l : List Node). Stands l (suc place + size_of on) off) (append_assoc (front ++ top ∷ []) ons (offs ++ rest) ∙ on_list) h
 
-layout_from-stands : (trees : List Tree) (front : List Node) (place q : ℕ) → place ≡ length front → q < length trees
+layout_from_stands : (trees : List Tree) (front : List Node) (place q : ℕ) → place ≡ length front → q < length trees
     → Stands (front ++ layout_from place trees) (top_from place trees q) (tree_of trees q)
-layout_from-stands [] front place q e l = absurd (not-suc-le-zero l)
-layout_from-stands (t ∷ trees) front place zero e l = nodes_stand t front (layout_from (place + size_of t) trees) place e
-layout_from-stands (t ∷ trees) front place (suc q) e l =
+layout_from_stands [] front place q e l = absurd (not-suc-le-zero l)
+layout_from_stands (t ∷ trees) front place zero e l = nodes_stand t front (layout_from (place + size_of t) trees) place e
+layout_from_stands (t ∷ trees) front place (suc q) e l =
     subst (λ (ns : List Node). Stands ns (top_from (place + size_of t) trees q) (tree_of trees q)) (append_assoc front (nodes_from place t) (layout_from (place + size_of t) trees))
-    (layout_from-stands trees (front ++ nodes_from place t) (place + size_of t) q more (le_of_suc-le-suc l))
+    (layout_from_stands trees (front ++ nodes_from place t) (place + size_of t) q more (le_of_suc-le-suc l))
   where
     more : place + size_of t ≡ length (front ++ nodes_from place t)
-    more = omega (arith, length-append front (nodes_from place t), nodes-length t place, e)
+    more = omega (arith, length-append front (nodes_from place t), nodes_length t place, e)
 
 -- each tree stands at its top
-pub layout-stands : (trees : List Tree) (q : ℕ) → q < length trees → Stands (layout trees) (top_of trees q) (tree_of trees q)
-layout-stands trees q l = layout_from-stands trees [] 0 q refl l
+pub layout_stands : (trees : List Tree) (q : ℕ) → q < length trees → Stands (layout trees) (top_of trees q) (tree_of trees q)
+layout_stands trees q l = layout_from_stands trees [] 0 q refl l
 
 kept : (nodes more : List Node) (place : ℕ) → place < length nodes → get_or (nodes ++ more) place (node.Leaf 0) ≡ get_or nodes place (node.Leaf 0)
 kept [] more place l = absurd (not-suc-le-zero l)

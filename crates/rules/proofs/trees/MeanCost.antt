@@ -25,9 +25,9 @@ abbrev pub free : ℕ → ℕ → ℕ
 free zero above = 0
 free (suc n) above = free n above + one_if_free (has above n)
 
-pub free-few : (n above : ℕ) → free n above ≤ n
-free-few zero above = omega arith
-free-few (suc n) above = omega (arith, free-few n above, bit (has above n))
+pub free_few : (n above : ℕ) → free n above ≤ n
+free_few zero above = omega arith
+free_few (suc n) above = omega (arith, free_few n above, bit (has above n))
   where
     bit : (b : Bool) → one_if_free b ≤ 1
     bit true = omega arith
@@ -125,4 +125,4 @@ mean_times lines (fork line on off) (suc u) d = rw (pow-suc 100 u)
     (mean_times lines on u d.0) (mean_times lines off u d.1))
 
 pub mean_trillionfold : (lines : List Line) (t : Tree) → PollsOnce 0 t → IsTrillionfold (mean_cost lines t) (cost_of expected lines 6 t)
-mean_trillionfold lines t p = mean_times lines t 6 (depth_of t 6 0 p (free-few 6 0))
+mean_trillionfold lines t p = mean_times lines t 6 (depth_of t 6 0 p (free_few 6 0))

@@ -65,12 +65,12 @@ apart rule trees es ok (v, t, b) (w, t', nb) = nb (subst IsBreach (tells_one rul
 -- ---- lists of events
 
 -- every number below 64 is an event that can come
-pub small-events : (rule : Rule) (xs : List ℕ) → AllByRecursion (λ e. e < 64) xs → AllByRecursion (Event rule) xs
-small-events rule xs h = h
+pub small_events : (rule : Rule) (xs : List ℕ) → AllByRecursion (λ e. e < 64) xs → AllByRecursion (Event rule) xs
+small_events rule xs h = h
 
 -- so where only such numbers come, what is told is what is to be shown
 pub tells_shows : (rule : Rule) (trees : List Tree) (es : List ℕ) (v : Verdict) → AllByRecursion (λ e. e < 64) es → Tells rule trees es v → Shows rule es v
-tells_shows rule trees es v small tells = tells.shows (small-events rule es small)
+tells_shows rule trees es v small tells = tells.shows (small_events rule es small)
 
 cons_head : (x y : ℕ) (xs ys : List ℕ) → x ∷ xs ≡ y ∷ ys → x ≡ y
 cons_head x y xs ys p = ap (λ (l : List ℕ). get_or l 0 0) p
@@ -124,7 +124,7 @@ small_apart tried k i w l ok above =
 
 module _ (rule : Rule) (trees : List Tree) (es tried : List ℕ) (ok : AllByRecursion (Event rule) es) where
   tried_apart : (k : ℕ) → AllByRecursion (λ e. e < 64) (take k tried) → TellsBreach rule trees (es ++ take k tried) → TellsNoBreach rule trees (es ++ take k tried) → ⊥
-  tried_apart k small = apart rule trees (es ++ take k tried) (all_++ (Event rule) es (take k tried) ok (small-events rule (take k tried) small))
+  tried_apart k small = apart rule trees (es ++ take k tried) (all_++ (Event rule) es (take k tried) ok (small_events rule (take k tried) small))
 
   all_tried : take (length tried) tried ≡ tried
   all_tried = take_all (length tried) tried (le_refl (length tried))
@@ -155,9 +155,9 @@ module _ (rule : Rule) (trees : List Tree) (es tried : List ℕ) (ok : AllByRecu
       go (inl l) = small_apart tried k i x.within l x.events above
       go (inr l) = tried_apart k x.events b (no_breach_upto i k l y n)
 
-  breach-finished : (k : ℕ) → TriedBefore rule trees es tried k → TellsBreach rule trees (es ++ take k tried)
+  breach_finished : (k : ℕ) → TriedBefore rule trees es tried k → TellsBreach rule trees (es ++ take k tried)
       → TriedBefore rule trees es tried (length tried) → TellsNoBreach rule trees (es ++ tried) → ⊥
-  breach-finished k x b y n = tried_apart k x.events b (no_breach_upto (length tried) k x.within y (subst (λ (l : List ℕ). TellsNoBreach rule trees (es ++ l)) (sym all_tried) n))
+  breach_finished k x b y n = tried_apart k x.events b (no_breach_upto (length tried) k x.within y (subst (λ (l : List ℕ). TellsNoBreach rule trees (es ++ l)) (sym all_tried) n))
 
   event_one : (i i' : ℕ) → TriedBefore rule trees es tried i → 63 < get_or tried i 0 → TriedBefore rule trees es tried i' → 63 < get_or tried i' 0 → i ≡ i'
   event_one i i' x above y above' = go (cases_order i i')
@@ -180,18 +180,18 @@ module _ (rule : Rule) (trees : List Tree) (es tried : List ℕ) (ok : AllByRecu
   rehearsing_one coming a b es' es'' coming' coming'' (C.Rehearsing.breach_found k x t h) (C.Rehearsing.breach_found k' y t' h') =
       (ap (λ (n : ℕ). answer.Tried word.Breach n) (breach_one k k' t h t' h'), refl, refl)
   rehearsing_one coming a b es' es'' coming' coming'' (C.Rehearsing.breach_found k x t h) (C.Rehearsing.not_an_event i y t' h' l m) = absurd (breach_event k i t h t' h' m)
-  rehearsing_one coming a b es' es'' coming' coming'' (C.Rehearsing.breach_found k x t h) (C.Rehearsing.finished v y t' h' s) = absurd (breach-finished k t h t' h')
+  rehearsing_one coming a b es' es'' coming' coming'' (C.Rehearsing.breach_found k x t h) (C.Rehearsing.finished v y t' h' s) = absurd (breach_finished k t h t' h')
   rehearsing_one coming a b es' es'' coming' coming'' (C.Rehearsing.not_an_event i x t h l m) (C.Rehearsing.breached y) = absurd (apart rule trees es ok y x)
   rehearsing_one coming a b es' es'' coming' coming'' (C.Rehearsing.not_an_event i x t h l m) (C.Rehearsing.breach_found k y t' h') = absurd (breach_event k i t' h' t h m)
   rehearsing_one coming a b es' es'' coming' coming'' (C.Rehearsing.not_an_event i x t h l m) (C.Rehearsing.not_an_event i' y t' h' l' m') =
       (ap (λ (n : ℕ). answer.Refused (refusal.NoEvent n)) (event_one i i' t m t' m'), refl, refl)
   rehearsing_one coming a b es' es'' coming' coming'' (C.Rehearsing.not_an_event i x t h l m) (C.Rehearsing.finished v y t' h' s) = absurd (event_finished i l m t')
   rehearsing_one coming a b es' es'' coming' coming'' (C.Rehearsing.finished v x t h s) (C.Rehearsing.breached y) = absurd (apart rule trees es ok y x)
-  rehearsing_one coming a b es' es'' coming' coming'' (C.Rehearsing.finished v x t h s) (C.Rehearsing.breach_found k y t' h') = absurd (breach-finished k t' h' t h)
+  rehearsing_one coming a b es' es'' coming' coming'' (C.Rehearsing.finished v x t h s) (C.Rehearsing.breach_found k y t' h') = absurd (breach_finished k t' h' t h)
   rehearsing_one coming a b es' es'' coming' coming'' (C.Rehearsing.finished v x t h s) (C.Rehearsing.not_an_event i y t' h' l m) = absurd (event_finished i l m t)
   rehearsing_one coming a b es' es'' coming' coming'' (C.Rehearsing.finished v x t h s) (C.Rehearsing.finished w y t' h' s') = (
     ap (λ (u : Verdict). answer.Tried (word_of u) (length tried))
-        (tells_one rule trees (es ++ tried) v w (all_++ (Event rule) es tried ok (small-events rule tried (subst (AllByRecursion (λ e. e < 64)) all_tried t.events))) s s'),
+        (tells_one rule trees (es ++ tried) v w (all_++ (Event rule) es tried ok (small_events rule tried (subst (AllByRecursion (λ e. e < 64)) all_tried t.events))) s s'),
     refl,
     refl,
   )

@@ -24,7 +24,7 @@ use Rattle.events.proofs.SetLaws.{dec∈, no_member, ∈_below}
 use Rattle.rules.proofs.automata.RunLaws.{reaches_ending, safe_reaches_live, safe_below, lowest_of, release_one}
 use Rattle.rules.proofs.watch.HeldLaws.{Tracks, Released, Unreleased, held_tracks, empty_no_ending}
 use Rattle.rules.proofs.watch.VerdictLaws.{watches_held}
-use Rattle.rules.proofs.watch.PromiseLaws.{breach_or_not, watches_tells, take-breached, take-full, take_nothing_waits, take-taken, looked, rehearse_breached, Tried, tried_none, tried_more, rehearse_breach_found, rehearse_not_an_event, rehearse_finished}
+use Rattle.rules.proofs.watch.PromiseLaws.{breach_or_not, watches_tells, take_breached, take_full, take_nothing_waits, take_taken, looked, rehearse_breached, Tried, tried_none, tried_more, rehearse_breach_found, rehearse_not_an_event, rehearse_finished}
 
 -- ---- the held set and the verdict
 
@@ -47,8 +47,8 @@ releases rule dec set = go (release_decided rule dec)
     go (inl (r, rel)) = at r rel (dec∈ r set)
     go (inr none) = inr (λ r rel h. none r rel)
 
-pub settled-some : (rule : Rule) → SafeDecided rule → (raw : ℕ) → (set : ℕ) × Settled rule raw set
-settled-some rule dec raw = go (releases rule dec raw)
+pub settled_some : (rule : Rule) → SafeDecided rule → (raw : ℕ) → (set : ℕ) × Settled rule raw set
+settled_some rule dec raw = go (releases rule dec raw)
   where
     go : ((r : ℕ) × Release rule r × (r ∈ raw)) ⊎ ((r : ℕ) → Release rule r → r ∈ raw → ⊥) → (set : ℕ) × Settled rule raw set
     go (inl (r, rel, h)) = (2 ^ r, inl (r, rel, h, refl))
@@ -62,35 +62,35 @@ reads_some rule dec count set = go (cases_eq set 0) (releases rule dec set)
     go (inr nz) (inl h) = (verdict.ClearSince count, inr (inl (h, refl)))
     go (inr nz) (inr none) = (verdict.Open, inr (inr (nz, none, refl)))
 
-pub next-some : (rule : Rule) → SafeDecided rule → (count set : ℕ) (v : Verdict) → (w : Verdict) × Next rule count set v w
-next-some rule dec count set verdict.Open = reads_some rule dec count set
-next-some rule dec count set (verdict.BreachAt j) = (verdict.BreachAt j, refl)
-next-some rule dec count set (verdict.ClearSince i) = (verdict.ClearSince i, refl)
+pub next_some : (rule : Rule) → SafeDecided rule → (count set : ℕ) (v : Verdict) → (w : Verdict) × Next rule count set v w
+next_some rule dec count set verdict.Open = reads_some rule dec count set
+next_some rule dec count set (verdict.BreachAt j) = (verdict.BreachAt j, refl)
+next_some rule dec count set (verdict.ClearSince i) = (verdict.ClearSince i, refl)
 
 watches_from_some : (rule : Rule) (trees : List Tree) → SafeDecided rule → (es : List ℕ) (count held : ℕ) (v : Verdict) → (set : ℕ) × ((w : Verdict) × WatchesFrom rule trees count held v es set w)
 watches_from_some rule trees dec [] count held v = (held, (v, (refl, refl)))
 watches_from_some rule trees dec (e ∷ es) count held v =
-    let (next, settled) = settled-some rule dec (leads_to trees held e) in
-    let (shown, reads) = next-some rule dec (suc count) next v in
+    let (next, settled) = settled_some rule dec (leads_to trees held e) in
+    let (shown, reads) = next_some rule dec (suc count) next v in
     let (set, (w, rest)) = watches_from_some rule trees dec es (suc count) next shown in
     (set, (w, (next, settled, (shown, reads, rest))))
 
 module _ (rule : Rule) (trees : List Tree) (sound : Sound rule trees) (raw : ℕ) (start : StartSet rule raw) where
-  pub watches-some : (es : List ℕ) → (set : ℕ) × ((w : Verdict) × Watches rule trees es set w)
-  watches-some es =
-      let (first, settled) = settled-some rule sound.decided raw in
+  pub watches_some : (es : List ℕ) → (set : ℕ) × ((w : Verdict) × Watches rule trees es set w)
+  watches_some es =
+      let (first, settled) = settled_some rule sound.decided raw in
       let (v, reads) = reads_some rule sound.decided 0 first in
       let (set, (w, rest)) = watches_from_some rule trees sound.decided es 0 first v in
       (set, (w, (raw, start, (first, settled, (v, reads, rest)))))
 
   pub tells_some : (es : List ℕ) → (v : Verdict) × Tells rule trees es v
-  tells_some es = let (set, (w, h)) = watches-some es in (w, watches_tells rule trees sound es set w h)
+  tells_some es = let (set, (w, h)) = watches_some es in (w, watches_tells rule trees sound es set w h)
 
   pub held_some : (es : List ℕ) → (set : ℕ) × Held rule trees es set
-  held_some es = let (set, (w, h)) = watches-some es in (set, watches_held rule trees es set w h)
+  held_some es = let (set, (w, h)) = watches_some es in (set, watches_held rule trees es set w h)
 
-  pub shows-some : (es : List ℕ) → AllByRecursion (Event rule) es → (v : Verdict) × Shows rule es v
-  shows-some es ok = let (v, tells) = tells_some es in (v, tells.shows ok)
+  pub shows_some : (es : List ℕ) → AllByRecursion (Event rule) es → (v : Verdict) × Shows rule es v
+  shows_some es ok = let (v, tells) = tells_some es in (v, tells.shows ok)
 
   -- whether the events have an ending is decided
   pub ending_decided : (es : List ℕ) → AllByRecursion (Event rule) es → Ending rule es ⊎ NoEnding rule es
@@ -107,8 +107,8 @@ module _ (rule : Rule) (trees : List Tree) (sound : Sound rule trees) (raw : ℕ
               at (inl (q, h, x)) = let (l, (s, st, run)) = (mem q).0 h in inl (reaches_ending rule es (s, st, (q, run, l)))
               at (inr none) = inr ((empty_no_ending rule es set tracks).0 (no_member 32 set tracks.small (λ k h. none k (∈_below 32 k set tracks.small h) h)))
 
-  pub breach-decided : (es : List ℕ) → TellsBreach rule trees es ⊎ TellsNoBreach rule trees es
-  breach-decided es = let (v, tells) = tells_some es in go v tells (breach_or_not v)
+  pub breach_decided : (es : List ℕ) → TellsBreach rule trees es ⊎ TellsNoBreach rule trees es
+  breach_decided es = let (v, tells) = tells_some es in go v tells (breach_or_not v)
     where
       go : (v : Verdict) → Tells rule trees es v → IsBreach v ⊎ (IsBreach v → ⊥) → TellsBreach rule trees es ⊎ TellsNoBreach rule trees es
       go v tells (inl b) = inl (v, tells, b)
@@ -120,16 +120,16 @@ module _ (rule : Rule) (trees : List Tree) (sound : Sound rule trees) (raw : ℕ
   Answered c es coming = (a : Answer) × ((es' : List ℕ) × ((coming' : List ℕ) × (length es' ≤ limit) × Calls rule trees c es coming a es' coming'))
 
   taking_some : (es coming : List ℕ) → length es ≤ limit → Answered call.Take es coming
-  taking_some es coming l = let (held, (v, h)) = watches-some es in go held v h (breach_or_not v) (cases_lt (length es) limit) coming
+  taking_some es coming l = let (held, (v, h)) = watches_some es in go held v h (breach_or_not v) (cases_lt (length es) limit) coming
     where
       go : (held : ℕ) (v : Verdict) → Watches rule trees es held v → IsBreach v ⊎ (IsBreach v → ⊥) → (length es < limit) ⊎ (limit ≤ length es) → (coming : List ℕ) → Answered call.Take es coming
-      go held v h (inl b) d coming = (answer.Refused refusal.Breached, (es, (coming, l, take-breached rule trees sound es held v h coming b)))
-      go held v h (inr nb) (inr full) coming = (answer.Refused refusal.Full, (es, (coming, l, take-full rule trees sound es held v h coming nb (le_antisymm l full))))
+      go held v h (inl b) d coming = (answer.Refused refusal.Breached, (es, (coming, l, take_breached rule trees sound es held v h coming b)))
+      go held v h (inr nb) (inr full) coming = (answer.Refused refusal.Full, (es, (coming, l, take_full rule trees sound es held v h coming nb (le_antisymm l full))))
       go held v h (inr nb) (inl room) [] = (answer.Refused refusal.NothingWaits, (es, ([], l, take_nothing_waits rule trees sound es held v h nb room)))
       go held v h (inr nb) (inl room) (e ∷ coming) =
-          let (next, settled) = settled-some rule sound.decided (leads_to trees held e) in
-          let (w, reads) = next-some rule sound.decided (length es + 1) next v in
-          (answer.Taken w (polls_of trees held e), (es ++ e ∷ [], (coming, omega (arith, length-append es (e ∷ []), room), take-taken rule trees sound es held v h e coming next w nb room settled reads)))
+          let (next, settled) = settled_some rule sound.decided (leads_to trees held e) in
+          let (w, reads) = next_some rule sound.decided (length es + 1) next v in
+          (answer.Taken w (polls_of trees held e), (es ++ e ∷ [], (coming, omega (arith, length-append es (e ∷ []), room), take_taken rule trees sound es held v h e coming next w nb room settled reads)))
 
   -- ---- rehearse
 
@@ -139,19 +139,19 @@ module _ (rule : Rule) (trees : List Tree) (sound : Sound rule trees) (raw : ℕ
   rehearse_from es coming tried n k held v split so_far (inl b) = (answer.Tried word.Breach k, rehearse_breach_found rule trees sound es tried k held v so_far coming b)
   rehearse_from es coming tried zero k held v split so_far (inr nb) =
       (answer.Tried (word_of v) (length tried), rehearse_finished rule trees sound es tried k held v so_far coming nb (omega arith))
-  rehearse_from es coming tried (suc n) k held v split so_far (inr nb) = go (cases_lt (get_or tried k 0) 64) (settled-some rule sound.decided (leads_to trees held (get_or tried k 0)))
+  rehearse_from es coming tried (suc n) k held v split so_far (inr nb) = go (cases_lt (get_or tried k 0) 64) (settled_some rule sound.decided (leads_to trees held (get_or tried k 0)))
       (λ next w h. rehearse_from es coming tried n (k + 1) next w (omega arith) h (breach_or_not w))
     where
       go : (get_or tried k 0 < 64) ⊎ (64 ≤ get_or tried k 0) → (next : ℕ) × Settled rule (leads_to trees held (get_or tried k 0)) next
           → ((next : ℕ) (w : Verdict) → Tried rule trees sound es tried (k + 1) next w → (a : Answer) × Rehearsing rule trees es coming tried a es coming)
           → (a : Answer) × Rehearsing rule trees es coming tried a es coming
       go (inl small) (next, settled) more =
-          let (w, reads) = next-some rule sound.decided (length es + k + 1) next v in
+          let (w, reads) = next_some rule sound.decided (length es + k + 1) next v in
           more next w (tried_more rule trees sound es tried k held v so_far next w nb (omega arith) small settled reads)
       go (inr above) s more = (answer.Refused (refusal.NoEvent k), rehearse_not_an_event rule trees sound es tried k held v so_far coming nb (omega arith) above)
 
   rehearsing_some : (es coming tried : List ℕ) → (a : Answer) × Rehearsing rule trees es coming tried a es coming
-  rehearsing_some es coming tried = let (held, (v, h)) = watches-some es in go held v h (breach_or_not v)
+  rehearsing_some es coming tried = let (held, (v, h)) = watches_some es in go held v h (breach_or_not v)
     where
       go : (held : ℕ) (v : Verdict) → Watches rule trees es held v → IsBreach v ⊎ (IsBreach v → ⊥) → (a : Answer) × Rehearsing rule trees es coming tried a es coming
       go held v h (inl b) = (answer.Refused refusal.Breached, rehearse_breached rule trees sound es held v h coming tried b)
@@ -161,7 +161,7 @@ module _ (rule : Rule) (trees : List Tree) (sound : Sound rule trees) (raw : ℕ
 
   pub calls_some : (c : Call) (es coming : List ℕ) → length es ≤ limit → Answered c es coming
   calls_some call.Take es coming l = taking_some es coming l
-  calls_some call.Look es coming l = let (held, (v, h)) = watches-some es in (answer.Shown v (length es), (es, (coming, l, looked rule trees sound es held v h coming)))
+  calls_some call.Look es coming l = let (held, (v, h)) = watches_some es in (answer.Shown v (length es), (es, (coming, l, looked rule trees sound es held v h coming)))
   calls_some (call.Rehearse tried) es coming l = let (a, r) = rehearsing_some es coming tried.now in (a, (es, (coming, l, r)))
   calls_some call.Rearm es coming l = (answer.Armed, ([], (coming, omega arith, C.Rearming.armed)))
 

@@ -79,8 +79,8 @@ module _ (rule : Rule) (release : ℕ) (is : ReleaseSet rule release) where
   pub settled_open : (raw : ℕ) → bit_and raw release ≡ 0 → Settled rule raw raw
   settled_open raw none = inr (release_out raw none, refl)
 
-  pub settled-released : (raw : ℕ) → (bit_and raw release ≡ 0 → ⊥) → Settled rule raw release
-  settled-released raw some = inl (release_in raw some)
+  pub settled_released : (raw : ℕ) → (bit_and raw release ≡ 0 → ⊥) → Settled rule raw release
+  settled_released raw some = inl (release_in raw some)
 
   pub reads_breach : (count : ℕ) → Reads rule count 0 (verdict.BreachAt count)
   reads_breach count = inl (refl, refl)
@@ -95,11 +95,11 @@ module _ (rule : Rule) (release : ℕ) (is : ReleaseSet rule release) where
 pub next_open : (rule : Rule) (count set : ℕ) (v w : Verdict) → v ≡ verdict.Open → Reads rule count set w → Next rule count set v w
 next_open rule count set v w e reads = subst (λ (u : Verdict). Next rule count set u w) (sym e) reads
 
-pub next-breach : (rule : Rule) (count set : ℕ) (v : Verdict) (j : ℕ) → v ≡ verdict.BreachAt j → Next rule count set v (verdict.BreachAt j)
-next-breach rule count set v j e = subst (λ (u : Verdict). Next rule count set u (verdict.BreachAt j)) (sym e) refl
+pub next_breach : (rule : Rule) (count set : ℕ) (v : Verdict) (j : ℕ) → v ≡ verdict.BreachAt j → Next rule count set v (verdict.BreachAt j)
+next_breach rule count set v j e = subst (λ (u : Verdict). Next rule count set u (verdict.BreachAt j)) (sym e) refl
 
-pub next-clear : (rule : Rule) (count set : ℕ) (v : Verdict) (i : ℕ) → v ≡ verdict.ClearSince i → Next rule count set v (verdict.ClearSince i)
-next-clear rule count set v i e = subst (λ (u : Verdict). Next rule count set u (verdict.ClearSince i)) (sym e) refl
+pub next_clear : (rule : Rule) (count set : ℕ) (v : Verdict) (i : ℕ) → v ≡ verdict.ClearSince i → Next rule count set v (verdict.ClearSince i)
+next_clear rule count set v i e = subst (λ (u : Verdict). Next rule count set u (verdict.ClearSince i)) (sym e) refl
 
 -- ---- what a watch keeps
 
@@ -132,19 +132,19 @@ module _ (rule : Rule) (trees : List Tree) (sound : Sound rule trees) where
     no_breach : (IsBreach v → ⊥) → TellsNoBreach rule trees es
     no_breach nb = (v, watches_tells es held v watches, nb)
 
-    pub take-breached : (coming : List ℕ) → IsBreach v → Taking rule trees es coming (answer.Refused refusal.Breached) es coming
-    take-breached coming b = C.Taking.breached (v, watches_tells es held v watches, b)
+    pub take_breached : (coming : List ℕ) → IsBreach v → Taking rule trees es coming (answer.Refused refusal.Breached) es coming
+    take_breached coming b = C.Taking.breached (v, watches_tells es held v watches, b)
 
-    pub take-full : (coming : List ℕ) → (IsBreach v → ⊥) → length es ≡ limit → Taking rule trees es coming (answer.Refused refusal.Full) es coming
-    take-full coming nb full = C.Taking.full (no_breach nb) full
+    pub take_full : (coming : List ℕ) → (IsBreach v → ⊥) → length es ≡ limit → Taking rule trees es coming (answer.Refused refusal.Full) es coming
+    take_full coming nb full = C.Taking.full (no_breach nb) full
 
     pub take_nothing_waits : (IsBreach v → ⊥) → length es < limit → Taking rule trees es [] (answer.Refused refusal.NothingWaits) es []
     take_nothing_waits nb room = C.Taking.nothing_waits (no_breach nb) room refl
 
-    pub take-taken : (e : ℕ) (later : List ℕ) (next : ℕ) (w : Verdict) → (IsBreach v → ⊥) → length es < limit
+    pub take_taken : (e : ℕ) (later : List ℕ) (next : ℕ) (w : Verdict) → (IsBreach v → ⊥) → length es < limit
         → Settled rule (leads_to trees held e) next → Next rule (length es + 1) next v w
         → Taking rule trees es (e ∷ later) (answer.Taken w (polls_of trees held e)) (es ++ e ∷ []) later
-    take-taken e later next w nb room settled now = C.Taking.taken e later w (polls_of trees held e) (no_breach nb) room refl
+    take_taken e later next w nb room settled now = C.Taking.taken e later w (polls_of trees held e) (no_breach nb) room refl
         (watches_tells (es ++ e ∷ []) next w (taken rule trees es held v e next w watches settled now))
         (held, watches_held rule trees es held v watches, refl)
 

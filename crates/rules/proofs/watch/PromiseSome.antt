@@ -15,9 +15,9 @@ use Rattle.rules.specs.watch.Promises.{FittedAll, Promise}
 use Rattle.events.proofs.SetLaws.{true_T, false_T, ∈_none, ∈_one, ∈_one_is, ∈_below, ∈_union, union_small, ∈-set_of}
 use Rattle.rules.proofs.automata.RunLaws.{safe_below}
 use Rattle.rules.proofs.automata.RuleLaws.{live_small}
-use Rattle.rules.proofs.automata.PruningLaws.{selected-wanted, stands, stood}
+use Rattle.rules.proofs.automata.PruningLaws.{selected_wanted, stands, stood}
 use Rattle.rules.proofs.watch.HeldLaws.{safe_decided}
-use Rattle.rules.proofs.trees.BestLaws.{best-fitted}
+use Rattle.rules.proofs.trees.BestLaws.{best_fitted}
 use Rattle.rules.proofs.trees.BestComputed.{fill, cost_in, line_in, fill_bests, build, built}
 use Rattle.rules.proofs.watch.PromiseLaws.{fitted_sound}
 use Rattle.rules.proofs.watch.CallsSome.{calls_all_some}
@@ -47,7 +47,7 @@ module _ (price : Price) (rule : Rule) (live safe release : ℕ) (law : Lawful p
 
   wanted : (q : ℕ) → Wants rule q (wants q)
   unfolding wants
-  wanted q = selected-wanted rule live safe release kinds q
+  wanted q = selected_wanted rule live safe release kinds q
 
   tree : ℕ → Tree
   tree q = build price rule.lines (wants q) (fill price rule.lines (wants q) 729) 6 0
@@ -55,9 +55,9 @@ module _ (price : Price) (rule : Rule) (live safe release : ℕ) (law : Lawful p
   cost : ℕ → ℕ
   cost q = cost_in price rule.lines (wants q) (fill price rule.lines (wants q) 729) 0
 
-  state-fitted : (q : ℕ) → Fitted price rule q (tree q) (cost q)
+  state_fitted : (q : ℕ) → Fitted price rule q (tree q) (cost q)
   unfolding tree cost
-  state-fitted q = best-fitted price rule q (wants q) (cost_in price rule.lines (wants q) (fill price rule.lines (wants q) 729))
+  state_fitted q = best_fitted price rule q (wants q) (cost_in price rule.lines (wants q) (fill price rule.lines (wants q) 729))
       (line_in price rule.lines (wants q) (fill price rule.lines (wants q) 729)) law well (wanted q) (fill_bests price rule.lines (wants q) 729 refl)
       (build price rule.lines (wants q) (fill price rule.lines (wants q) 729) 6 0) (built price rule.lines (wants q) 729 refl)
 
@@ -74,7 +74,7 @@ module _ (price : Price) (rule : Rule) (live safe release : ℕ) (law : Lawful p
     a_cost_each = list_from_length 0 (length rule.states) cost;
     fitted = λ q l.
         subst (λ (t : Tree). Fitted price rule q t (get_or (list_from 0 (length rule.states) cost) q 0)) (sym (list_from_at 0 (length rule.states) tree q (leaf 0) l ∙ ap tree (native.Mathlib.Nat.zero-add q)))
-        (subst (Fitted price rule q (tree q)) (sym (list_from_at 0 (length rule.states) cost q 0 l ∙ ap cost (native.Mathlib.Nat.zero-add q))) (state-fitted q));
+        (subst (Fitted price rule q (tree q)) (sym (list_from_at 0 (length rule.states) cost q 0 l ∙ ap cost (native.Mathlib.Nat.zero-add q))) (state_fitted q));
   }
 
   -- ---- the start set
@@ -108,9 +108,9 @@ module _ (price : Price) (rule : Rule) (live safe release : ℕ) (law : Lawful p
       )
       go false p = subst Goal (sym p) ((λ h. absurd (∈_none t h)), (λ st. absurd (false_T (has live s) p (stood rule live safe release kinds s t st).0)))
 
-  stands-small : (s : ℕ) → stands_set s < 2 ^ 32
+  stands_small : (s : ℕ) → stands_set s < 2 ^ 32
   unfolding stands_set
-  stands-small s = go (has live s) refl (has safe s) refl
+  stands_small s = go (has live s) refl (has safe s) refl
     where
       go : (b : Bool) → has live s ≡ b → (c : Bool) → has safe s ≡ c → cond b (2 ^ cond c release s) 0 < 2 ^ 32
       go true p true q = pow_below release 32 (safe_below rule release (kinds.release_is s ((kinds.safe_is s).0 (true_T (has safe s) q))).0)
@@ -120,9 +120,9 @@ module _ (price : Price) (rule : Rule) (live safe release : ℕ) (law : Lawful p
   start : ℕ
   start = union_over 32 (set_of 32 (starts_by rule.states)) stands_set
 
-  start-set : StartSet rule start
+  start_set : StartSet rule start
   unfolding start
-  start-set = record { small = union_small 32 (set_of 32 (starts_by rule.states)) stands_set 32 (λ s l. stands-small s); members = λ t. (fwd t, bwd t) }
+  start_set = record { small = union_small 32 (set_of 32 (starts_by rule.states)) stands_set 32 (λ s l. stands_small s); members = λ t. (fwd t, bwd t) }
     where
       fwd : (t : ℕ) → t ∈ union_over 32 (set_of 32 (starts_by rule.states)) stands_set → (s : ℕ) × Starts rule s × StandsFor rule s t
       fwd t h =
@@ -136,9 +136,9 @@ module _ (price : Price) (rule : Rule) (live safe release : ℕ) (law : Lawful p
 
   -- ---- the promise for any calls
 
-  pub promise-some : (calls : List Call) (coming : List ℕ)
+  pub promise_some : (calls : List Call) (coming : List ℕ)
       → (trees : List Tree) × ((costs : List ℕ) × ((answers : List Answer) × ((left : List ℕ) × Promise price rule trees costs calls coming answers left)))
-  promise-some calls coming =
+  promise_some calls coming =
       let sound = fitted_sound price rule trees costs well (safe_decided rule safe kinds.safe_is) all_fitted in
-      let (answers, (es, (left, all))) = calls_all_some rule trees sound start start-set calls [] coming (omega arith) in
+      let (answers, (es, (left, all))) = calls_all_some rule trees sound start start_set calls [] coming (omega arith) in
       (trees, (costs, (answers, (left, record { fit = all_fitted; taken = es; answered = all }))))

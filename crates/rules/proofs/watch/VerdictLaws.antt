@@ -84,15 +84,15 @@ shows_open rule es ok lasts unsafe = record {
   kept = λ i e. absurd (is_clear verdict.Open i e);
 }
 
-pub shows-breach : (rule : Rule) (es : List ℕ) (j : ℕ) → AllByRecursion (Event rule) es → First (NoEnding rule) es j → Shows rule es (verdict.BreachAt j)
-shows-breach rule es j ok first = record {
+pub shows_breach : (rule : Rule) (es : List ℕ) (j : ℕ) → AllByRecursion (Event rule) es → First (NoEnding rule) es j → Shows rule es (verdict.BreachAt j)
+shows_breach rule es j ok first = record {
   breach = λ k. ((λ e. subst (First (NoEnding rule) es) (is_breach (verdict.BreachAt j) k e) first), (λ f. ap verdict.BreachAt (first_one (NoEnding rule) es j k first f)));
   clear = λ i. ((λ e. absurd (is_clear (verdict.BreachAt j) i e)), (λ f. absurd (no_ending_later rule j es ok first.holds (safe_now rule i es ok f.holds))));
   kept = λ i e. absurd (is_clear (verdict.BreachAt j) i e);
 }
 
-pub shows-clear : (rule : Rule) (es : List ℕ) (i : ℕ) → AllByRecursion (Event rule) es → First (ReachesSafe rule) es i → Shows rule es (verdict.ClearSince i)
-shows-clear rule es i ok first = record {
+pub shows_clear : (rule : Rule) (es : List ℕ) (i : ℕ) → AllByRecursion (Event rule) es → First (ReachesSafe rule) es i → Shows rule es (verdict.ClearSince i)
+shows_clear rule es i ok first = record {
   breach = λ j. ((λ e. absurd (is_breach (verdict.ClearSince i) j e)), (λ f. absurd (no_ending_later rule j es ok f.holds (safe_now rule i es ok first.holds))));
   clear = λ k. ((λ e. subst (First (ReachesSafe rule) es) (is_clear (verdict.ClearSince i) k e) first), (λ f. ap verdict.ClearSince (first_one (ReachesSafe rule) es i k first f)));
   kept = λ k e more more-ok. safe_ending rule (take k es) more more-ok (subst (λ (n : ℕ). ReachesSafe rule (take n es)) (is_clear (verdict.ClearSince i) k e) first.holds);
@@ -110,12 +110,12 @@ open_unsafe rule es shows = no_first (ReachesSafe rule) es (λ j f. is_clear ver
 reads_shows : (rule : Rule) (es : List ℕ) (set : ℕ) (w : Verdict) → SafeDecided rule → AllByRecursion (Event rule) es → Tracks rule es set
     → ((k : ℕ) → k < length es → NoEnding rule (take k es) → ⊥) → ((k : ℕ) → k < length es → ReachesSafe rule (take k es) → ⊥)
     → Reads rule (length es) set w → Shows rule es w
-reads_shows rule es set w dec ok tracks lasted unsafe (inl (z, e)) = subst (Shows rule es) (sym e) (shows-breach rule es (length es) ok (record {
+reads_shows rule es set w dec ok tracks lasted unsafe (inl (z, e)) = subst (Shows rule es) (sym e) (shows_breach rule es (length es) ok (record {
   within = le_refl (length es);
   holds = subst (NoEnding rule) (sym (take_all (length es) es (le_refl (length es)))) ((empty_no_ending rule es set tracks).0 z);
   before = lasted;
 }))
-reads_shows rule es set w dec ok tracks lasted unsafe (inr (inl ((r, rel, h), e))) = subst (Shows rule es) (sym e) (shows-clear rule es (length es) ok (record {
+reads_shows rule es set w dec ok tracks lasted unsafe (inr (inl ((r, rel, h), e))) = subst (Shows rule es) (sym e) (shows_clear rule es (length es) ok (record {
   within = le_refl (length es);
   holds = subst (ReachesSafe rule) (sym (take_all (length es) es (le_refl (length es)))) ((release_reaches_safe rule es set r rel tracks).0 h);
   before = unsafe;
@@ -124,8 +124,8 @@ reads_shows rule es set w dec ok tracks lasted unsafe (inr (inr (nz, none, e))) 
     (λ n. nz ((empty_no_ending rule es set tracks).1 n))
     (λ h. let r = Rattle.rules.proofs.automata.RunLaws.release_exists rule dec h.2.0 h.2.2 in none r.0 r.1 ((release_reaches_safe rule es set r.0 r.1 tracks).1 h)))
 
-pub shows-start : (rule : Rule) (set : ℕ) (v : Verdict) → SafeDecided rule → Tracks rule [] set → Reads rule 0 set v → Shows rule [] v
-shows-start rule set v dec tracks reads = reads_shows rule [] set v dec tt tracks (λ k l. absurd (not-suc-le-zero l)) (λ k l. absurd (not-suc-le-zero l)) reads
+pub shows_start : (rule : Rule) (set : ℕ) (v : Verdict) → SafeDecided rule → Tracks rule [] set → Reads rule 0 set v → Shows rule [] v
+shows_start rule set v dec tracks reads = reads_shows rule [] set v dec tt tracks (λ k l. absurd (not-suc-le-zero l)) (λ k l. absurd (not-suc-le-zero l)) reads
 
 pub shows_step : (rule : Rule) (es : List ℕ) (e set : ℕ) (v w : Verdict) → SafeDecided rule → AllByRecursion (Event rule) es → Event rule e
     → Shows rule es v → Tracks rule (es ++ e ∷ []) set → Next rule (suc (length es)) set v w → Shows rule (es ++ e ∷ []) w
@@ -144,9 +144,9 @@ shows_step rule es e set verdict.Open w dec ok ok-e shows tracks reads =
     early : (k : ℕ) → k < length (es ++ e ∷ []) → take k (es ++ e ∷ []) ≡ take k es
     early k l = take-append-le k es (e ∷ []) (omega (arith, count))
 shows_step rule es e set (verdict.BreachAt j) w dec ok ok-e shows tracks same = subst (Shows rule (es ++ e ∷ [])) (sym same)
-    (shows-breach rule (es ++ e ∷ []) j (all_++ (Event rule) es (e ∷ []) ok (ok-e, tt)) (first_more (NoEnding rule) es (e ∷ []) j ((shows.breach j).0 refl)))
+    (shows_breach rule (es ++ e ∷ []) j (all_++ (Event rule) es (e ∷ []) ok (ok-e, tt)) (first_more (NoEnding rule) es (e ∷ []) j ((shows.breach j).0 refl)))
 shows_step rule es e set (verdict.ClearSince i) w dec ok ok-e shows tracks same = subst (Shows rule (es ++ e ∷ [])) (sym same)
-    (shows-clear rule (es ++ e ∷ []) i (all_++ (Event rule) es (e ∷ []) ok (ok-e, tt)) (first_more (ReachesSafe rule) es (e ∷ []) i ((shows.clear i).0 refl)))
+    (shows_clear rule (es ++ e ∷ []) i (all_++ (Event rule) es (e ∷ []) ok (ok-e, tt)) (first_more (ReachesSafe rule) es (e ∷ []) i ((shows.clear i).0 refl)))
 
 -- ---- any list of events
 
@@ -171,7 +171,7 @@ pub watch_shows : (rule : Rule) (trees : List Tree) → SafeDecided rule → All
     → AllByRecursion (Event rule) es → Watches rule trees es set w → Tracks rule es set × Shows rule es w
 watch_shows rule trees dec serves es set w ok (raw, start, (first, settled, (v, reads, rest))) =
     let tracks = tracks_start rule raw first dec start settled in
-    watch_from rule trees dec serves es [] first set v w ok tt tracks (shows-start rule first v dec tracks reads) rest
+    watch_from rule trees dec serves es [] first set v w ok tt tracks (shows_start rule first v dec tracks reads) rest
 
 pub watches_held : (rule : Rule) (trees : List Tree) (es : List ℕ) (set : ℕ) (w : Verdict) → Watches rule trees es set w → Held rule trees es set
 watches_held rule trees es set w (raw, start, (first, settled, (v, reads, rest))) = (raw, start, (first, settled, from es 0 first v rest))
@@ -210,10 +210,10 @@ pub not_breach : (rule : Rule) (es : List ℕ) (v : Verdict) → Shows rule es v
 not_breach rule es v shows nb = no_first (NoEnding rule) es (λ j f. nb (j, (shows.breach j).1 f))
 
 -- a breach stands just when some of the first events have no ending
-pub breach-stands : (rule : Rule) (trees : List Tree) (es : List ℕ) → AllByRecursion (Event rule) es → TellsBreach rule trees es ↔ ((j : ℕ) × First (NoEnding rule) es j)
-breach-stands rule trees es ok = (
+pub breach_stands : (rule : Rule) (trees : List Tree) (es : List ℕ) → AllByRecursion (Event rule) es → TellsBreach rule trees es ↔ ((j : ℕ) × First (NoEnding rule) es j)
+breach_stands rule trees es ok = (
   (λ (v, tells, (j, e)). (j, ((tells.shows ok).breach j).0 e)),
-  (λ (j, first). (verdict.BreachAt j, record { shows = λ ok'. shows-breach rule es j ok' first }, (j, refl))),
+  (λ (j, first). (verdict.BreachAt j, record { shows = λ ok'. shows_breach rule es j ok' first }, (j, refl))),
 )
 
 pub no_breach_stands : (rule : Rule) (trees : List Tree) (es : List ℕ) → AllByRecursion (Event rule) es → TellsNoBreach rule trees es → NoEnding rule es → ⊥

@@ -24,8 +24,8 @@ NotEmpty (x ∷ xs) = Unit {0}
 pub record EndingFrom (rule : Rule) (Begins : ℕ → Type 0) (es : List ℕ) : Type 0 where
   pub u : List ℕ
   pub v : List ℕ
-  pub u-events : AllByRecursion (Event rule) u
-  pub v-events : AllByRecursion (Event rule) v
+  pub u_events : AllByRecursion (Event rule) u
+  pub v_events : AllByRecursion (Event rule) v
   pub v_turns : NotEmpty v
   pub start : ℕ
   pub accepting : ℕ

@@ -2,7 +2,7 @@
 use Rattle.std.proofs.Common.{refl}
 use Rattle.sources.specs.ChangeLogs.{pairs_within}
 use Rattle.sources.proofs.Flips.{has-xor, flips_cancel}
-use Rattle.sources.proofs.Rewiring.{rewired-line, rewired_lt, straight-events, cancel_events, compose_events, compose_fits}
+use Rattle.sources.proofs.Rewiring.{rewired-line, rewired_lt, straight_events, cancel_events, compose_events, compose_fits}
 use Rattle.sources.proofs.laws_stand.Goals as goal
 
 pub returns : goal.returns
@@ -13,7 +13,7 @@ returns c = record {
   worked = refl;
   rewired = λ entries turned event. (rewired_lt entries turned event, rewired-line entries turned event);
   turns = cancel_events;
-  straight = straight-events;
+  straight = straight_events;
   composed = λ upper lower above below f g.
       (compose_fits upper above lower below f g, compose_events upper above lower below f.six f.named);
 }

@@ -3,7 +3,7 @@ use Rattle.std.proofs.Common.{arith}
 use Rattle.std.proofs.ByRecursion.{All-get_or}
 use Rattle.rules.specs.automata.Rules.{LineInRange}
 use Rattle.fitting.specs.Tables.{value_at}
-use Rattle.fitting.proofs.Prices.{on_small, off_small, some_left, few-left}
+use Rattle.fitting.proofs.Prices.{on_small, off_small, some_left, few_left}
 use Rattle.fitting.proofs.best.fork_on.Goals as goal
 
 pub invariant_of-price : goal.invariant_of-price
@@ -17,7 +17,7 @@ invariant_of-price g c =
       cost_high = range.cost_high;
       chance_high = range.chance_high;
       some = some_left best cell line u c.requires.small c.requires.cell c.requires.free c.requires.count;
-      few = few-left best cell line u c.requires.small c.requires.cell c.requires.free c.requires.count;
+      few = few_left best cell line u c.requires.small c.requires.cell c.requires.free c.requires.count;
       on_high = on_small best cell line u c.requires.small c.requires.cell c.requires.free c.requires.count c.on_cell.result c.on_cell.ensures.is;
       off_high = off_small best cell line u c.requires.small c.requires.cell c.requires.free c.requires.count c.off_cell.result c.off_cell.ensures.is;
     }

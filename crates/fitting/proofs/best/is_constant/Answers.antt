@@ -1,13 +1,13 @@
 -- Each turn compares the lowest event that is left.
 use Rattle.std.proofs.Common.{◌<◌, true, false, sym, ap, ◌∙◌, arith}
-use Rattle.events.proofs.CellLaws.{lowest-small}
+use Rattle.events.proofs.CellLaws.{lowest_small}
 use Rattle.events.proofs.SetLaws.{false_T, true_T}
 use Rattle.fitting.specs.Tables.{value_at}
 use Rattle.fitting.proofs.SameSets.{left_all, left_differs, left_less, left_none}
 use Rattle.fitting.proofs.best.is_constant.Goals as goal
 
 pub bounds-sets-lowest_event : goal.bounds-sets-lowest_event
-bounds-sets-lowest_event c = omega (arith, lowest-small c.args.cell, c.lowest_event.ensures.found c.requires)
+bounds-sets-lowest_event c = omega (arith, lowest_small c.args.cell, c.lowest_event.ensures.found c.requires)
 
 pub loop-rest-init : goal.loop-rest-init
 loop-rest-init c = left_all (value_at c.args.sets.now) c.args.cell c.events_of-rest.result c.requires c.events_of-rest.type_inv c.events_of-rest.ensures.covered

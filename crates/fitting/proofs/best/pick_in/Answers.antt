@@ -2,7 +2,7 @@
 use Rattle.std.proofs.Common.{◌≡◌, ℕ, ◌<◌, ◌⊎◌, inl, inr, eq-zero-or-pos}
 use Rattle.events.specs.Cells.{free_in}
 use Rattle.rules.specs.trees.Bests.{Constant}
-use Rattle.rules.proofs.trees.ConstantLaws.{full-constant}
+use Rattle.rules.proofs.trees.ConstantLaws.{full_constant}
 use Rattle.fitting.specs.Tables.{value_at}
 use Rattle.fitting.proofs.best.pick_in.Goals as goal
 
@@ -10,7 +10,7 @@ varies_some : (wants : ℕ → ℕ) (cell : ℕ) → (Constant wants cell → �
 varies_some wants cell varies = go (eq-zero-or-pos (free_in cell))
   where
     go : (free_in cell ≡ 0) ⊎ (0 < free_in cell) → 0 < free_in cell
-    go (inl z) = absurd (varies (full-constant wants cell z))
+    go (inl z) = absurd (varies (full_constant wants cell z))
     go (inr p) = p
 
 pub best_fork-requires : goal.best_fork-requires

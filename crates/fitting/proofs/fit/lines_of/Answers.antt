@@ -13,4 +13,4 @@ loop-i-preserved c = copied_more (rule_of c.args.draft.now).lines c.loop-i.lines
 
 pub returns : goal.returns
 returns c =
-    copied_all (rule_of c.args.draft.now).lines c.loop-i.lines c.loop-i.i (omega arith) (draft_well c.args.draft.now).six-lines c.loop-i.invariant
+    copied_all (rule_of c.args.draft.now).lines c.loop-i.lines c.loop-i.i (omega arith) (draft_well c.args.draft.now).six_lines c.loop-i.invariant

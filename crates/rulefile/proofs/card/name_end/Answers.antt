@@ -1,10 +1,10 @@
 use Rattle.std.proofs.Common.{sym, ◌∙◌, arith}
-use Rattle.rulefile.proofs.Names.{name-short, name_byte, name_more}
+use Rattle.rulefile.proofs.Names.{name_short, name_byte, name_more}
 use Rattle.rulefile.proofs.card.name_end.Goals as goal
 
 pub returns-then-file-place : goal.returns-then-file-place
 returns-then-file-place c = record {
-  value = sym (name-short _ _ _ c.loop-place-test.true c.if-file-place.true) ∙ c.loop-place.invariant.0;
+  value = sym (name_short _ _ _ c.loop-place-test.true c.if-file-place.true) ∙ c.loop-place.invariant.0;
   within = tt;
 }
 

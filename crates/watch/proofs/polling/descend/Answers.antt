@@ -1,5 +1,5 @@
 -- A leaf ends the way, and a fork leads on to one of its parts.
-use Rattle.watch.proofs.PollLaws.{within, way_starts, at_leaf, at_fork, leaf-set, leaf-lines, on_smaller, off_smaller, way_on, way_off}
+use Rattle.watch.proofs.PollLaws.{within, way_starts, at_leaf, at_fork, leaf_set, leaf_lines, on_smaller, off_smaller, way_on, way_off}
 use Rattle.watch.proofs.polling.descend.Goals as goal
 
 pub loop-at-init : goal.loop-at-init
@@ -9,7 +9,7 @@ pub returns-in-Leaf : goal.returns-in-Leaf
 returns-in-Leaf g c =
     let way = c.loop-at.invariant.1 in
     let t = at_leaf c.args.nodes.now c.loop-at.at _ way.sound _ c.in-Leaf.is in
-    record { set = leaf-set _ _ _ _ _ _ _ way _ t; polled = leaf-lines _ _ _ _ _ _ _ way _ t; known = way.known }
+    record { set = leaf_set _ _ _ _ _ _ _ way _ t; polled = leaf_lines _ _ _ _ _ _ _ way _ t; known = way.known }
 
 pub ask-requires : goal.ask-requires
 ask-requires g c =

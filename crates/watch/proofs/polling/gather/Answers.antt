@@ -8,7 +8,7 @@ use Rattle.rules.specs.watch.Holding.{tree_of}
 use Rattle.fitting.specs.Plans.{plan_trees}
 use Rattle.watch.specs.Polling.{head_of}
 use Rattle.watch.proofs.UnionLaws.{left_less, left_none, left_in}
-use Rattle.watch.proofs.PollLaws.{sound_top, top_set, top-lines}
+use Rattle.watch.proofs.PollLaws.{sound_top, top_set, top_lines}
 use Rattle.watch.proofs.polling.gather.Goals as goal
 
 pub descend-set-requires : goal.descend-set-requires
@@ -35,7 +35,7 @@ loop-rest-preserved g c =
       left_less 32 (λ q. gives (tree_of (plan_trees plan) q) e) held rest _ _ pos i.0
           (top_set plan _ _ _ c.nodes-nodes.ensures top state e c.loop-rest.set _ c.descend-set.ensures.set) i.2,
       left_less 32 (λ q. polls (tree_of (plan_trees plan) q) e) held rest _ _ pos i.0
-          (top-lines plan _ _ _ c.nodes-nodes.ensures top state e _ _ c.descend-set.ensures.polled) i.3,
+          (top_lines plan _ _ _ c.nodes-nodes.ensures top state e _ _ c.descend-set.ensures.polled) i.3,
       c.descend-set.ensures.known,
     )
 

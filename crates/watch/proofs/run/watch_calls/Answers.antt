@@ -4,7 +4,7 @@ use Rattle.rules.specs.declared.Call.TheVariants as call
 use Rattle.rules.specs.declared.Answer.TheVariants as answer
 use Rattle.rules.proofs.watch.CalledLaws.{called_none}
 use Rattle.fitting.specs.Plans.{plan_rule, plan_trees}
-use Rattle.watch.proofs.RunLaws.{calls_more, rest-kept, calls_all}
+use Rattle.watch.proofs.RunLaws.{calls_more, rest_kept, calls_all}
 use Rattle.watch.proofs.run.watch_calls.Goals as goal
 
 pub loop-i-init : goal.loop-i-init
@@ -20,7 +20,7 @@ loop-i-preserved g c =
       calls_more c.args.plan.now c.loop-i.watch.plan.now c.args.calls.now (g.S.LineSource.events c.args.source.now) c.loop-i.answers i c.loop-i.watch.state c.make.new.self.state
           (g.S.LineSource.events c.loop-i.source) (g.S.LineSource.events c.make.new.source) call.Take c.make.result answer.Armed lc la c.loop-i.invariant.1 c.loop-i.invariant.0 c.make.ensures.made,
       c.make.ensures.plan ∙ c.loop-i.invariant.1,
-      rest-kept c.loop-i.answers c.args.answers.now i c.make.result c.loop-i.invariant.2,
+      rest_kept c.loop-i.answers c.args.answers.now i c.make.result c.loop-i.invariant.2,
     )
 
 pub returns : goal.returns

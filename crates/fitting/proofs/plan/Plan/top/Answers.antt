@@ -14,7 +14,7 @@ returns c =
       is = c.top_in.ensures.is;
       past = c.top_in.ensures.past;
       stands = λ h.
-          let low : c.args.state < 32 = omega (arith, h, (draft_well p.draft).few-states) in
+          let low : c.args.state < 32 = omega (arith, h, (draft_well p.draft).few_states) in
           subst (λ (at : ℕ). Stands p.nodes.now at (tree_of (plan_trees p) c.args.state)) (sym (c.top_in.ensures.is low)) (plan_stands p c.args.state h);
       sound = plan_sound p;
     }

@@ -1,13 +1,13 @@
 use Rattle.std.proofs.Common.{length, arith}
 use Rattle.rulefile.proofs.Checked.{room_ok}
-use Rattle.rulefile.proofs.Agree.{states-good, moves-good, states_range, moves_range, must_states, must_moves, agree}
+use Rattle.rulefile.proofs.Agree.{states_good, moves_good, states_range, moves_range, must_states, must_moves, agree}
 use Rattle.rulefile.proofs.draft.make.agreed.Goals as goal
 
 pub same_states-requires : goal.same_states-requires
 same_states-requires c =
     let wide = room_ok (length c.args.states.now) (length c.args.moves.now) c.in-Ok.ensures in
     let range = states_range c.args.file.now c.in-Ok-scan.outline c.in-Ok-scan.ensures in
-    record { good = states-good c.args.file.now c.in-Ok-scan.outline c.in-Ok-scan.ensures; room = omega (arith, range.1, wide.0) }
+    record { good = states_good c.args.file.now c.in-Ok-scan.outline c.in-Ok-scan.ensures; room = omega (arith, range.1, wide.0) }
 
 pub returns-then-not-same_states : goal.returns-then-not-same_states
 returns-then-not-same_states c = record { room = tt; found = λ k a. c.same_states.ensures.not c.if-not-same_states.true (must_states c.args.file.now c.in-Ok-scan.outline c.in-Ok-scan.ensures _ _ k a) }
@@ -17,7 +17,7 @@ same_moves-requires c =
     let wide = room_ok (length c.args.states.now) (length c.args.moves.now) c.in-Ok.ensures in
     let range = states_range c.args.file.now c.in-Ok-scan.outline c.in-Ok-scan.ensures in
     let few = moves_range c.args.file.now c.in-Ok-scan.outline c.in-Ok-scan.ensures in
-    record { range = range; good = moves-good c.args.file.now c.in-Ok-scan.outline c.in-Ok-scan.ensures; room = omega (arith, few, wide.1) }
+    record { range = range; good = moves_good c.args.file.now c.in-Ok-scan.outline c.in-Ok-scan.ensures; room = omega (arith, few, wide.1) }
 
 pub returns-then-not-same_moves : goal.returns-then-not-same_moves
 returns-then-not-same_moves c = record { room = tt; found = λ k a. c.same_moves.ensures.not c.if-not-same_moves.true (must_moves c.args.file.now c.in-Ok-scan.outline c.in-Ok-scan.ensures _ _ k a) }

@@ -1,13 +1,13 @@
 -- The wiring itself, or the straight one.
 use Rattle.std.proofs.Common.{refl}
-use Rattle.sources.proofs.Rewiring.{straight-named, taken_means, refused_means}
+use Rattle.sources.proofs.Rewiring.{straight_named, taken_means, refused_means}
 use Rattle.sources.proofs.wiring.Wiring.over.Goals as goal
 
 pub invariant_of-result : goal.invariant_of-result
 invariant_of-result g c =
     elim c.match-check_wiring.branch [
       | goal.in-Ok w ↦ simp w.result-is (record { named = (w.in-Ok.ensures.exact.0 refl).named })
-      | goal.in-Err w ↦ simp w.result-is (record { named = straight-named })
+      | goal.in-Err w ↦ simp w.result-is (record { named = straight_named })
     ]
 
 pub returns : goal.returns

@@ -9,7 +9,7 @@ use Rattle.fitting.specs.Plans.{plan_rule, plan_trees}
 use Rattle.fitting.proofs.PlanLaws.{plan_sound}
 use Rattle.watch.specs.Steps.{after_event}
 use Rattle.watch.specs.Watching.{CalledOn}
-use Rattle.watch.proofs.TakeLaws.{lasts, head_low, none_waits, taken-within, take_done}
+use Rattle.watch.proofs.TakeLaws.{lasts, head_low, none_waits, taken_within, take_done}
 use Rattle.watch.proofs.armed.Watch.take.Goals as goal
 
 pub returns-in_default : goal.returns-in_default
@@ -46,7 +46,7 @@ invariant_of-self g c =
     let coming = g.S.LineSource.events c.args.source.now in
     let counted = ap (λ s. s.count) c.after_event-after.ensures in record {
       few = omega (arith, counted);
-      states = taken-within p c.args.self.now.state.held _ c.gather-set.result.set c.sets.result.release c.after_event-after.result.held
+      states = taken_within p c.args.self.now.state.held _ c.gather-set.result.set c.sets.result.release c.after_event-after.result.held
           (head_low coming (g.S.LineSource.small c.args.source.now)) c.sets.ensures.release c.gather-set.ensures.set (ap (λ s. s.held) c.after_event-after.ensures);
     }
 
