@@ -1,4 +1,4 @@
-// The worked cases, as tests: numbers, cells, the worked rule whole and damaged, the lent lists and the making, and what the program prints.
+// The worked cases, on one contract and as tests: numbers, cells, the worked rule whole and damaged, the lent lists and the making, and what the program prints.
 #![tactic(auto)]
 
 pub mod cases;

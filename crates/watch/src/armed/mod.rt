@@ -21,7 +21,7 @@ pub struct Watch<'p, 'd> {
     ghost states: { (q : ℕ) → has state.held q ≡ true → q < length (plan_rule plan.now).states },
 }
 
-// A watch that was closed. It can do nothing more than say what it showed at last.
+// A watch that was closed. It does nothing more, and keeps what it showed at last.
 #[derive(Drop)]
 pub struct Closed {
     last: Shown,
