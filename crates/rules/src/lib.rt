@@ -9,21 +9,22 @@ ghost use Rattle.rules.specs.Theorems.{BestFitted, FittedDetermined, MeasuresLaw
 ghost use Rattle.rules.specs.Theorems.{VerdictShown, HeldMeans, FittedSound, ClearPollsNothing, PromiseDetermined, PromiseKept};
 
 // One of the six lines: what a poll of it costs, 1 to 1,000 milliseconds, and its chance of being on, 0 to 100 hundredths.
-#[derive(Clone, Copy, PartialEq)]
+#[derive(Clone, Copy, Default, PartialEq, Eq)]
 pub struct Line {
     pub cost: u16,
     pub chance: u8,
 }
 
 // Whether a run may begin in the state, and whether the state is accepting.
-#[derive(Clone, Copy, PartialEq)]
+#[derive(Clone, Copy, Default, PartialEq, Eq)]
 pub struct State {
     pub start: bool,
     pub accepting: bool,
 }
 
-// A move from a state to a state, on each event that the cell covers. States go by number, from 0.
-#[derive(Clone, Copy, PartialEq)]
+// A move from a state to a state, on each event that the cell covers. States go by number, from 0. Moves are ordered by from-state, then cell, then
+// to-state.
+#[derive(Clone, Copy, Default, PartialEq, Eq, PartialOrd, Ord)]
 pub struct Move {
     pub from: u8,
     pub cell: u16,
@@ -31,14 +32,14 @@ pub struct Move {
 }
 
 // A node of a polling tree in a list of nodes: a fork on a line, with the places of its parts, or a leaf with a set of states, bit t for state t.
-#[derive(Clone, Copy)]
+#[derive(Clone, Copy, PartialEq, Eq)]
 pub enum Node {
     Fork { line: u8, on: u16, off: u16 },
     Leaf { set: u32 },
 }
 
 // What a watch shows, with the count of events at which it came to be so.
-#[derive(Clone, Copy)]
+#[derive(Clone, Copy, PartialEq, Eq)]
 pub enum Verdict {
     Open,
     BreachAt(u32),
@@ -46,7 +47,7 @@ pub enum Verdict {
 }
 
 // What a watch keeps between calls: the set of states it holds, the count of events taken since it was last armed, and what it shows.
-#[derive(Clone, Copy)]
+#[derive(Clone, Copy, PartialEq, Eq)]
 pub struct Snapshot {
     pub held: u32,
     pub count: u32,
@@ -54,7 +55,7 @@ pub struct Snapshot {
 }
 
 // A verdict without its count.
-#[derive(Clone, Copy)]
+#[derive(Clone, Copy, PartialEq, Eq)]
 pub enum Word {
     Open,
     Breach,
