@@ -15,14 +15,10 @@ const MOST: usize = 65_536;
 fn contents(rt: &HostRuntime, path: &str) -> Option<Vec<u8>>
     ensures { IfSome result (λ v. vec_len v ≤ 65536) }
 {
-    let Ok(file) = File::open(rt, path) else {
-        return None;
-    };
+    let file = File::open(rt, path).ok()?;
     let mut bytes = Vec::new(rt.alloc());
-    match file.take(MOST as u64 + 1).read_to_end(&mut bytes) {
-        Ok(_) if bytes.len() <= MOST => Some(bytes),
-        _ => None,
-    }
+    file.take(MOST as u64 + 1).read_to_end(&mut bytes).ok()?;
+    (bytes.len() <= MOST).then_some(bytes)
 }
 
 fn main(rt: HostRuntime) -> io::Result<()> {

@@ -2,7 +2,7 @@
 use Rattle.std.proofs.Common.{◌≡◌, ℕ, ◌<◌, ◌≤◌, ◌||◌, ltb, leb, List, length, Ok, arith}
 use Rattle.std.proofs.lemmas.Bool.{ltb-false, le-ltb, lt-leb, or_parts, or_from}
 use Rattle.codec.specs.declared.fault.NumberFault.{NumberFault}
-use Rattle.codec.specs.declared.read.Read.{Read}
+use Rattle.codec.specs.Reading.{Read}
 use Rattle.codec.specs.Number.{encode, number_at, IsNumber, Octets}
 use Rattle.codec.specs.Field.{ranged_at}
 use Rattle.codec.proofs.Steps.{inside_ok, then_ok, else_ok}

@@ -1,10 +1,10 @@
 -- Reading a number is exact for its encoding.
-use Rattle.std.proofs.Common.{◌≡◌, ℕ, zero, suc, ◌+◌, ◌-◌, ◌*◌, ◌/◌, ◌%◌, ◌<◌, ◌≤◌, ◌||◌, eqb, ltb, leb, List, [], ◌∷◌, ◌++◌, length, get_or, drop, IfOk, Ok, Result, sym, refl, ap, ◌∙◌, subst, ⊎_elim, arith}
+use Rattle.std.proofs.Common.{◌≡◌, ◌↔◌, ℕ, zero, suc, ◌+◌, ◌-◌, ◌*◌, ◌/◌, ◌%◌, ◌<◌, ◌≤◌, ◌||◌, eqb, ltb, leb, List, [], ◌∷◌, ◌++◌, length, get_or, drop, IfOk, Ok, Result, sym, refl, ap, ◌∙◌, subst, ⊎_elim, arith}
 use Rattle.std.proofs.lemmas.Bool.{cond_both, ltb-true, ltb-false, leb-false, eqb-false, cond-true, cond-false, lt-ltb, le-ltb, lt-leb, or_parts, or_from, ne_eqb, cases_lt}
 use Rattle.std.proofs.lemmas.List.{drop_more, length-drop, length-append}
 use Rattle.std.proofs.lemmas.Nat.{div-mul-add, mod-mul-add, div-add-mod', mod_below}
 use Rattle.std.proofs.lemmas.Result.{MatchResult-at_ok}
-use Rattle.codec.specs.declared.read.Read.{Read}
+use Rattle.codec.specs.Reading.{Read, read_to}
 use Rattle.codec.specs.declared.fault.NumberFault.{NumberFault}
 use Rattle.codec.specs.Number.{groups, encode, number_at, IsNumber, Octets, NumberExact}
 
@@ -178,3 +178,10 @@ pub number_exact : NumberExact
 unfolding Taken took
 number_exact f p v q octets =
     ((λ e. MatchResult-at_ok (λ n. IsNumber f p n.value n.next) (λ _. Unit {0}) _ e (sound f p octets)), complete f p octets v q)
+
+-- what is read at a place is exact
+pub exact_from : (f : List ℕ) (p : ℕ) (r : Result ℕ NumberFault) (at v q : ℕ) → Octets f → read_to r at ≡ number_at f p
+    → (read_to r at ≡ Ok (record { value = v; next = q })) ↔ IsNumber f p v q
+exact_from f p r at v q octets is =
+    let e = number_exact f p v q octets in
+    ((λ h. e.0 (sym is ∙ h)), (λ h. is ∙ e.1 h))

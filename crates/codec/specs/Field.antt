@@ -3,7 +3,7 @@ use Rattle.std.specs.Prelude.{ℕ, cond, ◌||◌, List, length, Ok, Err, Result
 use Rattle.codec.specs.declared.fault.NumberFault.{NumberFault}
 use Rattle.codec.specs.declared.fault.CardFault.{CardFault}
 use Rattle.codec.specs.declared.fault.CardFault.TheVariants as card
-use Rattle.codec.specs.declared.read.Read.{Read}
+use Rattle.codec.specs.Reading.{Read}
 use Rattle.codec.specs.Number.{number_at}
 use Rattle.codec.specs.Steps.{and_then}
 

@@ -2,7 +2,7 @@
 use Rattle.std.specs.Prelude.{◌≡◌, ℕ, zero, suc, ◌+◌, ◌-◌, ◌*◌, ◌/◌, ◌%◌, ◌<◌, ◌≤◌, cond, ◌||◌, ◌↔◌, List, [], ◌∷◌, ◌++◌, length, drop, Ok, Err, Result, ◌==◌, nat_le, nat_lt, slice_index, slice_index_or}
 use Rattle.codec.specs.declared.fault.NumberFault.{NumberFault}
 use Rattle.codec.specs.declared.fault.NumberFault.TheVariants.{Short, Form}
-use Rattle.codec.specs.declared.read.Read.{Read}
+use Rattle.codec.specs.Reading.{Read}
 
 -- ---- the encoding
 

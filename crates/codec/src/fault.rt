@@ -1,18 +1,19 @@
 // What is wrong with bytes, by layer. A fault of a lower layer is carried whole inside the upper one.
-ghost use Rattle.std.specs.Prelude.{◌≡◌};
+ghost use Rattle.std.specs.Prelude.{◌≡◌, ℕ};
 ghost use Rattle.codec.specs.declared.fault.CardFault.{CardFault};
+ghost use Rattle.codec.specs.declared.fault.NumberFault.{NumberFault};
 ghost use Rattle.codec.specs.Fault.{number_report, card_report};
 
 // The layer in which a fault arises: inside a number, inside a card (or a pair of a log), or in the file around them.
-#[derive(Clone, Copy, PartialEq)]
+#[derive(Clone, Copy, PartialEq, Eq)]
 pub enum Layer {
     Number,
     Card,
     File,
 }
 
-// What a fault tells: its number, the byte place that it is about, and its layer.
-#[derive(Clone, Copy, PartialEq)]
+// What a fault tells: its number, the byte place that it is about, and its layer. The number is what is told to people, and stands for no case here.
+#[derive(Clone, Copy, PartialEq, Eq)]
 pub struct Report {
     pub number: u8,
     pub place: usize,
@@ -41,6 +42,7 @@ pub enum CardFault {
     NameByte { place: usize },
 }
 
+// A `From` of its own: what a derive writes has no contract, and callers of `?` are to know which fault they carry.
 impl From<NumberFault> for CardFault {
     ghost from_gives = { λ x y. y ≡ CardFault.Number x };
 
@@ -49,50 +51,76 @@ impl From<NumberFault> for CardFault {
     }
 }
 
+// A fault of a layer that has numbers with a range.
+pub trait RangeFault: From<NumberFault> {
+    // the fault of bytes that end before the number, of a number that cannot be read, and of one outside its range
+    ghost short: { ℕ → Self };
+
+    ghost carried: { NumberFault → Self };
+
+    ghost outside: { ℕ → Self };
+
+    // The bytes end where the number should begin.
+    fn short(place: usize) -> Self
+        ensures { result ≡ short place };
+
+    // The number is outside its range.
+    fn outside(place: usize) -> Self
+        ensures { result ≡ outside place };
+
+    ghost carries: { (fault : NumberFault) (given : Self) → Self.from_gives fault given → given ≡ carried fault };
+}
+
+impl RangeFault for CardFault {
+    ghost short = { λ place. CardFault.Short place };
+
+    ghost carried = { λ fault. CardFault.Number fault };
+
+    ghost outside = { λ place. CardFault.Range place };
+
+    fn short(place: usize) -> Self {
+        Self::Short { place }
+    }
+
+    fn outside(place: usize) -> Self {
+        Self::Range { place }
+    }
+
+    ghost carries = { λ fault given is. is };
+}
+
 impl NumberFault {
-    // The number, place and layer of the fault.
+    // The number, place and layer of the fault. A method and no `From`, since it tells of the fault and does not turn it into another thing.
     pub fn report(self) -> Report
         ensures { result ≡ number_report self }
     {
-        let layer = Layer::Number;
-        match self {
-            NumberFault::Short { place } => Report {
-                number: 11,
-                place,
-                layer,
-            },
-            NumberFault::Form { place } => Report {
-                number: 12,
-                place,
-                layer,
-            },
+        let (number, place) = match self {
+            NumberFault::Short { place } => (11, place),
+            NumberFault::Form { place } => (12, place),
+        };
+        Report {
+            number,
+            place,
+            layer: Layer::Number,
         }
     }
 }
 
 impl CardFault {
-    // The number, place and layer of the fault; those of the number fault where it carries one.
+    // The number, place and layer of the fault; those of the number fault where it carries one. A method and no `From`, as above.
     pub fn report(self) -> Report
         ensures { result ≡ card_report self }
     {
-        let layer = Layer::Card;
-        match self {
-            CardFault::Number(fault) => fault.report(),
-            CardFault::Short { place } => Report {
-                number: 11,
-                place,
-                layer,
-            },
-            CardFault::Range { place } => Report {
-                number: 13,
-                place,
-                layer,
-            },
-            CardFault::NameByte { place } => Report {
-                number: 14,
-                place,
-                layer,
-            },
+        let (number, place) = match self {
+            CardFault::Number(fault) => return fault.report(),
+            CardFault::Short { place } => (11, place),
+            CardFault::Range { place } => (13, place),
+            CardFault::NameByte { place } => (14, place),
+        };
+        Report {
+            number,
+            place,
+            layer: Layer::Card,
         }
     }
 }

@@ -1,5 +1,6 @@
 -- A set of small numbers, held in one number: k is a member where bit k is set.
-use Rattle.std.specs.Prelude.{ℕ, zero, suc, ◌/◌, ◌%◌, ◌^◌, Bool, cond, T, ◌==◌, bit_or}
+use Rattle.std.specs.Prelude.{ℕ, zero, suc, ◌/◌, ◌%◌, ◌^◌, Bool, cond, T, ◌==◌, bit_or, List, filter}
+use Rattle.std.specs.List.{range_with_len}
 
 -- whether bit k is set
 unfoldable pub has : ℕ → ℕ → Bool
@@ -23,3 +24,7 @@ set_of (suc n) f = cond (f n) (bit_or (2 ^ n) (set_of n f)) (set_of n f)
 unfoldable pub union_over : ℕ → ℕ → (ℕ → ℕ) → ℕ
 union_over zero set f = 0
 union_over (suc n) set f = cond (has set n) (bit_or (f n) (union_over n set f)) (union_over n set f)
+
+-- the members of a set that are below 64, in rising order
+unfoldable pub members_of : ℕ → List ℕ
+members_of set = filter (has set) (range_with_len 0 64)

@@ -5,61 +5,39 @@ ghost use Rattle.std.specs.Prelude.{◌≡◌, ℕ, ◌<◌, ◌≤◌, false, �
 ghost use Rattle.events.specs.Cells.{covers, lowest};
 ghost use Rattle.events.specs.Laws.{UnionMembers, SharedMembers, NoMembers, OneMember, EveryMember, MembersBelow, SameMembers, TestedMembers, UnionOverMembers};
 ghost use Rattle.events.specs.Laws.{CoversTested, LowestCovered, FourCells};
-ghost use Rattle.events.specs.Sets.{has};
+ghost use Rattle.std.specs.Iterator.{YieldsFirst, item_count};
+ghost use Rattle.events.specs.Sets.{has, members_of};
 
+mod cells;
 mod table;
 
-use table::COVERED;
+pub use cells::Cell;
 
 // How many bits a set has.
 const WIDTH: u8 = 64;
 
-// How many cells there are: 3 to the power of 6.
-const CELLS: u16 = 729;
-
-// The table's entry for a cell.
-fn entry(cell: u16) -> u64
-    requires { cell < 729 }
-    ensures { (e : ℕ) → e < 64 → has result e ≡ covers cell e }
-{
-    COVERED[cell as usize]
-}
-
 // The set with no member.
-fn no_events() -> u64
-    ensures { (e : ℕ) → has result e ≡ false }
-{
-    0
-}
+const NO_EVENTS: u64 = 0;
 
 // The events that a cell covers, as a set. A number that is no cell covers none.
 pub fn events_of(cell: u16) -> u64
     ensures covered { (e : ℕ) → e < 64 → has result e ≡ (nat_lt cell 729 && covers cell e) }
 {
-    if cell < CELLS {
-        entry(cell)
-    } else {
-        no_events()
+    match Cell::new(cell) {
+        Some(cell) => cell.events(),
+        None => NO_EVENTS,
     }
 }
 
-// The lowest bit of a cell's entry.
-fn lowest_bit(cell: u16) -> u8
-    requires { cell < 729 }
-    ensures { result ≡ lowest cell }
-{
-    entry(cell).trailing_zeros() as u8
-}
-
-// The lowest event that a cell covers, and 64 for a number that is no cell.
+// The lowest event that a cell covers, and 64 for a number that is no cell. A number and no `Option`, since the call answers every number; where a cell is
+// at hand, `Cell::lowest_event` always has an event to tell.
 pub fn lowest_event(cell: u16) -> u8
     ensures found { cell < 729 → result ≡ lowest cell }
     ensures none { 729 ≤ cell → result ≡ 64 }
 {
-    if cell < CELLS {
-        lowest_bit(cell)
-    } else {
-        WIDTH
+    match Cell::new(cell) {
+        Some(cell) => cell.lowest_event(),
+        None => WIDTH,
     }
 }
 
@@ -76,6 +54,37 @@ pub fn contains(set: u64, member: u8) -> bool
     ensures { result ≡ has set member }
 {
     member < WIDTH && is_set(set, member)
+}
+
+// The members of a set that are still to come, the lowest first.
+#[derive(Drop)]
+pub struct Members {
+    rest: u64,
+}
+
+// The members of a set, in rising order.
+pub fn members_of(set: u64) -> Members
+    ensures { result.rest ≡ set }
+{
+    Members { rest: set }
+}
+
+impl Iterator for Members {
+    type Item = u8;
+
+    ghost next_gives = { YieldsFirst (λ s. members_of s.rest) };
+
+    ghost remaining = { item_count (λ s. members_of s.rest) };
+
+    // The lowest member that is still to come.
+    fn next(&mut self) -> Option<u8> {
+        if self.rest == 0 {
+            return None;
+        }
+        let lowest = self.rest.trailing_zeros() as u8;
+        self.rest &= self.rest - 1;
+        Some(lowest)
+    }
 }
 
 // The laws of sets and cells.

@@ -1,6 +1,5 @@
 -- What the proofs of the functions share.
 pub mod Prices
-pub mod Counts
 pub mod SameSets
 pub mod Scans
 pub mod Filled
@@ -8,8 +7,7 @@ pub mod Writing
 pub mod StateLaws
 pub mod Layouts
 pub mod AllStates
-pub mod DraftLines
-pub mod Fronts
+pub mod Nodes
 pub mod ReadLaws
 pub mod OneState
 pub mod PlanLaws

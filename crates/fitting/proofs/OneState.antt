@@ -13,22 +13,22 @@ use Rattle.rules.proofs.trees.MeasureLaws.{expected_lawful}
 use Rattle.rules.proofs.watch.WatchLaws.{dead_serves}
 use Rattle.rulefile.specs.declared.draft.Draft.{Draft}
 use Rattle.rulefile.specs.File.{Contents}
-use Rattle.rulefile.specs.Rule.{line_in, state_in}
+use Rattle.rulefile.specs.Rule.{named_in}
 use Rattle.rulefile.specs.Draft.{DraftValue, contents_of, empty_contents, Agrees}
 use Rattle.pruning.specs.Computed.{live_states, safe_states, lowest_safe}
 use Rattle.pruning.specs.Drafts.{rule_of}
 use Rattle.fitting.specs.declared.fit.Fitting.{Fitting}
-use Rattle.fitting.specs.Fits.{DraftFitted}
+use Rattle.fitting.specs.Fits.{DraftFitted, no_tree}
 use Rattle.fitting.specs.Reading.{Walkable, GivesPruned}
 use Rattle.fitting.specs.Plans.{one_state, one_leaf}
-use Rattle.fitting.proofs.AllStates.{zeros, rule_kinds}
+use Rattle.fitting.proofs.AllStates.{none_past, rule_kinds}
 use Rattle.fitting.proofs.ReadLaws.{fit_walkable, fit_gives}
 
 -- ---- its draft
 
 -- the rule of what a draft holds
 abbrev rule_from : DraftValue → Rule
-rule_from v = record { lines = map (λ l. l.line) (map (line_in v.file) v.lines); states = map (λ s. s.state) (map (state_in v.file) v.states); moves = v.moves }
+rule_from v = record { lines = map (λ l. l.value) (map (named_in v.file) v.lines); states = map (λ s. s.value) (map (named_in v.file) v.states); moves = v.moves }
 
 empty_is : rule_from empty_contents ≡ one_state
 unfolding empty_contents
@@ -83,7 +83,7 @@ only_zero P h (suc q) l = absurd (not-suc-le-zero (le_of_suc-le-suc l))
 
 -- what fitting would tell
 abbrev pub one_told : Fitting
-one_told = record { costs = replicate 32 0; tops = replicate 32 0; states = 1; behind = 1 }
+one_told = record { trees = replicate 32 no_tree; states = 1; behind = 1 }
 
 -- the leaf is the rule's fitted tree
 pub one_draft_fitted : (price : Price) → Lawful price → DraftFitted price one_state one_leaf one_leaf one_told
@@ -100,8 +100,7 @@ one_draft_fitted price law =
       nodes = refl;
       tops_are = only_zero (λ q. get_or (replicate 32 0) q 0 ≡ top_of (leaf 0 ∷ []) q) refl;
       stands = only_zero (λ q. Stands one_leaf (get_or (replicate 32 0) q 0) (tree_of (leaf 0 ∷ []) q)) (lit≤ tt, refl);
-      no_cost = λ q l. zeros 32 q;
-      no_top = λ q l. zeros 32 q;
+      past = λ q l. none_past 32 q;
     }
 
 -- it can be walked, and gives the pruned sets

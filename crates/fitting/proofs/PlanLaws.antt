@@ -1,9 +1,10 @@
 -- What stands of every plan: its sets of states are what their names say, and its trees are those that were fitted.
-use Rattle.std.proofs.Common.{◌≡◌, ℕ, ◌^◌, ◌<◌, ◌≤◌, Bool, true, false, cond, T, eqb, ◌⊎◌, ◌↔◌, List, length, get_or, replicate, IfSome, Some, None, Option, sym, refl, ap, ◌∙◌, subst, subst₂, inl, inr, arith}
+use Rattle.std.proofs.Common.{◌≡◌, ℕ, ◌^◌, ◌<◌, ◌≤◌, Bool, true, false, cond, eqb, ◌⊎◌, ◌↔◌, List, length, get_or, replicate, Some, None, Option, sym, refl, ap, ◌∙◌, subst, subst₂, inl, inr, arith}
+use Rattle.std.proofs.Math.Pow.{pow_mono}
 use Rattle.std.proofs.lemmas.List.{get_or_past}
 use Rattle.std.proofs.lemmas.Bool.{cases_lt, eqb-true, eqb-false}
 use Rattle.events.specs.Sets.{◌∈◌}
-use Rattle.events.proofs.SetLaws.{∈-set_of, dec∈, same_members}
+use Rattle.events.proofs.SetLaws.{dec∈, same_members, set_of_small}
 use Rattle.rules.specs.declared.Node.{Node}
 use Rattle.rules.specs.automata.Rules.{Rule, Starts, WellFormed}
 use Rattle.rules.specs.automata.Runs.{Live, Safe}
@@ -14,19 +15,18 @@ use Rattle.rules.specs.trees.Costs.{Price, Lawful}
 use Rattle.rules.specs.watch.Holding.{tree_of, ReleaseSet, SafeDecided, Sound}
 use Rattle.rules.specs.watch.Promises.{FittedAll}
 use Rattle.rules.proofs.automata.RunLaws.{safe_live, release_one}
-use Rattle.rules.proofs.automata.RuleLaws.{state_at_lem}
 use Rattle.rules.proofs.automata.RuleLaws as below
 use Rattle.rulefile.specs.Draft.{contents_of, empty_contents}
 use Rattle.pruning.specs.Drafts.{rule_of, IsRelease}
 use Rattle.rules.proofs.watch.WatchLaws.{dead_serves}
 use Rattle.pruning.specs.Computed.{live_states, safe_states, lowest_safe, pruned_set}
 use Rattle.pruning.proofs.DraftLaws.{draft_well}
-use Rattle.pruning.proofs.LiveLaws.{live_small, live_right}
+use Rattle.pruning.proofs.LiveLaws.{flagged_is, live_small, live_right}
 use Rattle.pruning.proofs.SafeLaws.{safe_small, safe_right, release_some, release_none, pruned_right}
 use Rattle.fitting.specs.declared.fit.Fitting.{Fitting}
 use Rattle.fitting.specs.declared.plan.Plan.{Plan}
-use Rattle.fitting.specs.Fits.{DraftFitted, told_costs}
-use Rattle.fitting.specs.Reading.{tree_at, read_trees, start_states, as_set, release_set}
+use Rattle.fitting.specs.Fits.{DraftFitted, told_costs, told_tops}
+use Rattle.fitting.specs.Reading.{tree_at, read_trees, start_states, release_set}
 use Rattle.fitting.specs.Plans.{PlanOf, plan_trees, one_state, one_leaf}
 use Rattle.fitting.proofs.OneState.{contents_rule, one_told, one_draft_fitted}
 use Rattle.fitting.proofs.ReadLaws.{sound_stands, length-tabled, get_or-tabled, read_fitted, read_stands, read_tops}
@@ -35,31 +35,36 @@ use Rattle.fitting.proofs.ReadLaws.{sound_stands, length-tabled, get_or-tabled, 
 
 pub start_right : (rule : Rule) (q : ℕ) → (q ∈ start_states rule.states) ↔ Starts rule q
 unfolding start_states
-start_right rule q =
-    let at = state_at_lem (λ s. T s.start) rule.states (record { start = false; accepting = false }) q in
-    let set = ∈-set_of (length rule.states) (λ q. (get_or rule.states q (record { start = false; accepting = false })).start) q in
-    ((λ h. at.1 (set.0 h)), (λ h. set.1 (at.0 h)))
+start_right rule = flagged_is (λ s. s.start) rule.states
+
+pub start_small : (rule : Rule) → WellFormed rule → start_states rule.states < 2 ^ 32
+unfolding start_states
+start_small rule well =
+    omega (arith, set_of_small (length rule.states) (λ q. (get_or rule.states q (record { start = false; accepting = false })).start), pow_mono {i = length rule.states} {j = 32}, well.few_states)
+
+-- sets with the same members are one
+same_set : (P : ℕ → Type 0) (a b : ℕ) → a < 2 ^ 32 → b < 2 ^ 32 → ((q : ℕ) → (q ∈ a) ↔ P q) → ((q : ℕ) → (q ∈ b) ↔ P q) → a ≡ b
+same_set P a b small small' is is' = same_members 32 a b small small' (λ k. ((λ h. (is' k).1 ((is k).0 h)), (λ h. (is k).1 ((is' k).0 h))))
 
 module _ (rule : Rule) (well : WellFormed rule) where
   pub live_same : (live : ℕ) → live < 2 ^ 32 → ((q : ℕ) → (q ∈ live) ↔ Live rule q) → live ≡ live_states rule
-  live_same live small is = same_members 32 live (live_states rule) small (live_small rule well) (λ k. ((λ h. (live_right rule well k).1 ((is k).0 h)), (λ h. (is k).1 ((live_right rule well k).0 h))))
+  live_same live small is = same_set (Live rule) live (live_states rule) small (live_small rule well) is (live_right rule well)
 
   pub safe_same : (safe : ℕ) → safe < 2 ^ 32 → ((q : ℕ) → (q ∈ safe) ↔ Safe rule q) → safe ≡ safe_states rule
-  safe_same safe small is = same_members 32 safe (safe_states rule) small (safe_small rule well) (λ k. ((λ h. (safe_right rule well k).1 ((is k).0 h)), (λ h. (is k).1 ((safe_right rule well k).0 h))))
+  safe_same safe small is = same_set (Safe rule) safe (safe_states rule) small (safe_small rule well) is (safe_right rule well)
 
-  -- the release state is below 32
-  pub release_below : (r : Option ℕ) → IsRelease rule r → IfSome r (λ q. q < 32)
-  release_below None none = tt
-  release_below (Some q) release = below.live_small rule well q (safe_live rule q release.0)
+  pub starts_same : (starts : ℕ) → starts < 2 ^ 32 → ((q : ℕ) → (q ∈ starts) ↔ Starts rule q) → starts ≡ start_states rule.states
+  starts_same starts small is = same_set (Starts rule) starts (start_states rule.states) small (start_small rule well) is (start_right rule)
 
-  pub release_same : (r : Option ℕ) → IsRelease rule r → as_set r ≡ release_set rule
+  -- the release state as a set, and none as the empty set
+  pub release_same : (r : Option ℕ) (set : ℕ) → IsRelease rule r → (r ≡ None → set ≡ 0) → ((q : ℕ) → r ≡ Some q → q < 32 → set ≡ 2 ^ q) → set ≡ release_set rule
   unfolding release_set
-  release_same None none = go (eqb (safe_states rule) 0) refl
+  release_same None set none at_none at_some = at_none refl ∙ go (eqb (safe_states rule) 0) refl
     where
       go : (b : Bool) → eqb (safe_states rule) 0 ≡ b → 0 ≡ cond b 0 (2 ^ lowest_safe rule)
       go true e = refl
       go false e = absurd (none (lowest_safe rule) (release_some rule well (eqb-false (safe_states rule) 0 e)).0)
-  release_same (Some q) release = go (eqb (safe_states rule) 0) refl
+  release_same (Some q) set release at_none at_some = at_some q refl (below.live_small rule well q (safe_live rule q release.0)) ∙ go (eqb (safe_states rule) 0) refl
     where
       go : (b : Bool) → eqb (safe_states rule) 0 ≡ b → 2 ^ q ≡ cond b 0 (2 ^ lowest_safe rule)
       go true e = absurd (release_none rule well (eqb-true (safe_states rule) 0 e) q release.0)
@@ -114,11 +119,11 @@ module _ (plan : Plan) where
 -- ---- a plan of a fitted rule
 
 module _ (price : Price) (rule : Rule) (nodes : List Node) (told : Fitting) (fit : DraftFitted price rule nodes nodes told) (plan : Plan)
-    (rule_is : rule_of plan.draft ≡ rule) (nodes_are : plan.nodes.now ≡ nodes) (tops_are : plan.tops ≡ told.tops) where
-  trees_are : plan_trees plan ≡ read_trees rule nodes told.tops
+    (rule_is : rule_of plan.draft ≡ rule) (nodes_are : plan.nodes.now ≡ nodes) (tops_are : plan.tops ≡ told_tops told) where
+  trees_are : plan_trees plan ≡ read_trees rule nodes (told_tops told)
   trees_are = λ i. read_trees (rule_is i) (nodes_are i) (tops_are i)
 
-  top_is : (q : ℕ) → get_or plan.tops q 0 ≡ get_or told.tops q 0
+  top_is : (q : ℕ) → get_or plan.tops q 0 ≡ get_or (told_tops told) q 0
   top_is q = ap (λ (ts : List ℕ). get_or ts q 0) tops_are
 
   stands_there : (q : ℕ) → q < length rule.states → Stands nodes (get_or plan.tops q 0) (tree_of (plan_trees plan) q)

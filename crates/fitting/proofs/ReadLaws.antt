@@ -17,7 +17,7 @@ use Rattle.rules.proofs.watch.PromiseOne.{fitted_all_one}
 use Rattle.pruning.specs.Computed.{pruned_set}
 use Rattle.pruning.proofs.SafeLaws.{pruned_right}
 use Rattle.fitting.specs.declared.fit.Fitting.{Fitting}
-use Rattle.fitting.specs.Fits.{DraftFitted, told_costs}
+use Rattle.fitting.specs.Fits.{DraftFitted, told_costs, told_tops}
 use Rattle.fitting.specs.Reading.{tree_from, tree_at, tabled, read_trees, sound_node, sound_at, Walkable, GivesPruned}
 
 -- ---- one tree
@@ -84,33 +84,33 @@ module _ (price : Price) (rule : Rule) (before after : List Node) (told : Fittin
   deep : (q : ℕ) → q < length rule.states → Depth 6 (tree_of fit.trees q)
   deep q l = depth_of (tree_of fit.trees q) 6 0 (once q l) (free_few 6 0)
 
-  tree_read : (q : ℕ) → q < length rule.states → tree_at 7 after (get_or told.tops q 0) ≡ tree_of fit.trees q
-  tree_read q l = reads_tree after (tree_of fit.trees q) 6 (get_or told.tops q 0) (fit.stands q l) (deep q l)
+  tree_read : (q : ℕ) → q < length rule.states → tree_at 7 after (get_or (told_tops told) q 0) ≡ tree_of fit.trees q
+  tree_read q l = reads_tree after (tree_of fit.trees q) 6 (get_or (told_tops told) q 0) (fit.stands q l) (deep q l)
 
-  pub fit_walkable : Walkable rule after told.tops
-  fit_walkable q l = sound_tree after (tree_of fit.trees q) 0 6 (get_or told.tops q 0) (fit.stands q l) (deep q l) (once q l)
+  pub fit_walkable : Walkable rule after (told_tops told)
+  fit_walkable q l = sound_tree after (tree_of fit.trees q) 0 6 (get_or (told_tops told) q 0) (fit.stands q l) (deep q l) (once q l)
 
-  pub fit_gives : WellFormed rule → GivesPruned rule after told.tops
-  fit_gives well q l = tabled_same 64 (gives (tree_at 7 after (get_or told.tops q 0))) (pruned_set rule q)
+  pub fit_gives : WellFormed rule → GivesPruned rule after (told_tops told)
+  fit_gives well q l = tabled_same 64 (gives (tree_at 7 after (get_or (told_tops told) q 0))) (pruned_set rule q)
       (λ e le.
       ap (λ (t : Tree). gives t e) (tree_read q l)
       ∙ pruned_one rule q e (gives (tree_of fit.trees q) e) (pruned_set rule q e) ((fit.fitted.fitted q l).serves e le) (pruned_right rule well q e))
 
-  trees_read : read_trees rule after told.tops ≡ fit.trees
+  trees_read : read_trees rule after (told_tops told) ≡ fit.trees
   unfolding read_trees
-  trees_read = ext_get_or (leaf 0) (tabled (length rule.states) (λ q. tree_at 7 after (get_or told.tops q 0))) fit.trees
-      (length-tabled (length rule.states) (λ q. tree_at 7 after (get_or told.tops q 0)) ∙ sym fit.fitted.a_tree_each)
+  trees_read = ext_get_or (leaf 0) (tabled (length rule.states) (λ q. tree_at 7 after (get_or (told_tops told) q 0))) fit.trees
+      (length-tabled (length rule.states) (λ q. tree_at 7 after (get_or (told_tops told) q 0)) ∙ sym fit.fitted.a_tree_each)
       (λ q l.
-      let low : q < length rule.states = omega (arith, l, length-tabled (length rule.states) (λ q. tree_at 7 after (get_or told.tops q 0))) in
-      get_or-tabled (length rule.states) (λ q. tree_at 7 after (get_or told.tops q 0)) q (leaf 0) low ∙ tree_read q low)
+      let low : q < length rule.states = omega (arith, l, length-tabled (length rule.states) (λ q. tree_at 7 after (get_or (told_tops told) q 0))) in
+      get_or-tabled (length rule.states) (λ q. tree_at 7 after (get_or (told_tops told) q 0)) q (leaf 0) low ∙ tree_read q low)
 
-  pub read_fitted : FittedAll price rule (read_trees rule after told.tops) (told_costs told)
+  pub read_fitted : FittedAll price rule (read_trees rule after (told_tops told)) (told_costs told)
   read_fitted = subst (λ (ts : List Tree). FittedAll price rule ts (told_costs told)) (sym trees_read) fit.fitted
 
-  pub read_stands : (q : ℕ) → q < length rule.states → Stands after (get_or told.tops q 0) (tree_of (read_trees rule after told.tops) q)
-  read_stands q l = subst (λ (ts : List Tree). Stands after (get_or told.tops q 0) (tree_of ts q)) (sym trees_read) (fit.stands q l)
+  pub read_stands : (q : ℕ) → q < length rule.states → Stands after (get_or (told_tops told) q 0) (tree_of (read_trees rule after (told_tops told)) q)
+  read_stands q l = subst (λ (ts : List Tree). Stands after (get_or (told_tops told) q 0) (tree_of ts q)) (sym trees_read) (fit.stands q l)
 
-  pub read_tops : (q : ℕ) → q < length rule.states → get_or told.tops q 0 ≡ top_of (read_trees rule after told.tops) q
+  pub read_tops : (q : ℕ) → q < length rule.states → get_or (told_tops told) q 0 ≡ top_of (read_trees rule after (told_tops told)) q
   read_tops q l = fit.tops_are q l ∙ ap (λ (ts : List Tree). top_of ts q) (sym trees_read)
 
   -- ---- the front of the nodes
@@ -118,12 +118,16 @@ module _ (price : Price) (rule : Rule) (before after : List Node) (told : Fittin
   pub front_is : take told.behind after ≡ layout fit.trees
   front_is = ap (take told.behind) fit.nodes ∙ take_at (layout fit.trees) (drop told.behind before) told.behind (sym fit.behind_is)
 
+  -- nodes that start with it have the same front
+  front_starts : (nodes rest : List Node) → nodes ≡ take told.behind after ++ rest → take told.behind after ≡ take told.behind nodes
+  front_starts nodes rest starts = sym (ap (take told.behind) starts ∙ take_at (take told.behind after) rest told.behind (ap length front_is ∙ sym fit.behind_is))
+
   -- nodes with the same front are as fitting leaves them
   module _ (nodes : List Node) (same : take told.behind after ≡ take told.behind nodes) where
     laid_out : nodes ≡ layout fit.trees ++ drop told.behind nodes
     laid_out = sym (take-append-drop told.behind nodes) ∙ ap (λ (l : List Node). l ++ drop told.behind nodes) (sym same ∙ front_is)
 
-    standing : (q : ℕ) → q < length rule.states → Stands nodes (get_or told.tops q 0) (tree_of fit.trees q)
+    standing : (q : ℕ) → q < length rule.states → Stands nodes (get_or (told_tops told) q 0) (tree_of fit.trees q)
     standing q l = subst₂ (λ (ns : List Node) (p : ℕ). Stands ns p (tree_of fit.trees q)) (sym laid_out) (sym (fit.tops_are q l))
         (stands_more (layout fit.trees) (drop told.behind nodes) (tree_of fit.trees q) (top_of fit.trees q)
         (layout_stands fit.trees q (omega (arith, l, fit.fitted.a_tree_each))))
@@ -140,14 +144,20 @@ module _ (price : Price) (rule : Rule) (before after : List Node) (told : Fittin
       nodes = laid_out;
       tops_are = fit.tops_are;
       stands = standing;
-      no_cost = fit.no_cost;
-      no_top = fit.no_top;
+      past = fit.past;
     }
 
--- nodes that are as fitting leaves them have the same front
+-- nodes that start with what fitting writes are as it leaves them
+pub starts_fitted : (price : Price) (rule : Rule) (before after nodes rest : List Node) (told : Fitting) → DraftFitted price rule before after told → nodes ≡ take told.behind after ++ rest
+    → DraftFitted price rule nodes nodes told
+starts_fitted price rule before after nodes rest told fit starts = same_fitted price rule before after told fit nodes (front_starts price rule before after told fit nodes rest starts)
+
+-- nodes that are as fitting leaves them start with what it writes
 pub fronts_agree : (price : Price) (rule : Rule) (before after nodes : List Node) (told told' : Fitting) → DraftFitted price rule before after told → DraftFitted price rule nodes nodes told'
-    → take told.behind after ≡ take told.behind nodes
+    → nodes ≡ take told.behind after ++ drop told.behind nodes
 fronts_agree price rule before after nodes told told' fit fit' =
     let same : fit.trees ≡ fit'.trees = (fitted_all_one price rule fit.trees fit'.trees (told_costs told) (told_costs told') fit.fitted fit'.fitted).0 in
     let end : told'.behind ≡ told.behind = fit'.behind_is ∙ ap (λ (ts : List Tree). length (layout ts)) (sym same) ∙ sym fit.behind_is in
-    front_is price rule before after told fit ∙ ap layout same ∙ sym (front_is price rule nodes nodes told' fit') ∙ ap (λ (n : ℕ). take n nodes) end
+    let front : take told.behind nodes ≡ take told.behind after =
+    ap (λ (n : ℕ). take n nodes) (sym end) ∙ front_is price rule nodes nodes told' fit' ∙ ap layout (sym same) ∙ sym (front_is price rule before after told fit) in
+    sym (take-append-drop told.behind nodes) ∙ ap (λ (l : List Node). l ++ drop told.behind nodes) front

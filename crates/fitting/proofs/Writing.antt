@@ -1,5 +1,6 @@
 -- Trees written into a list of nodes: a leaf, and a fork after its two parts.
-use Rattle.std.proofs.Common.{◌≡◌, ℕ, suc, ◌+◌, ◌*◌, ◌^◌, ◌<◌, ◌≤◌, ◌⊎◌, List, [], ◌∷◌, ◌++◌, length, set, sym, refl, ap, ◌∙◌, subst, ap₂, inl, inr, mul_comm, pow-suc, add-one, arith}
+use Rattle.std.proofs.Common.{◌≡◌, ℕ, suc, ◌+◌, ◌*◌, ◌^◌, ◌<◌, ◌⊎◌, List, [], ◌∷◌, ◌++◌, Option, None, Some, length, get_or, set, sym, refl, ap, ◌∙◌, subst, ap₂, inl, inr, mul_comm, pow-suc, add-one, arith}
+use Rattle.std.specs.Option.{IfSome, IsSomeAnd, unwrap_or}
 use Rattle.std.proofs.lemmas.Nat.{pow_pos}
 use Rattle.std.proofs.lemmas.List.{length-set, set_comm}
 use Rattle.events.specs.Cells.{Free, free_in, lowest, on_cell, off_cell}
@@ -13,7 +14,7 @@ use Rattle.rules.proofs.trees.BestLaws.{on_below, off_below}
 use Rattle.rules.proofs.trees.ConstantLaws.{constant_decided}
 use Rattle.rules.proofs.trees.LayoutLaws.{nodes_length}
 use Rattle.fitting.specs.States.{overwrite, Written}
-use Rattle.fitting.specs.Tables.{Chosen}
+use Rattle.fitting.specs.Tables.{line_at, Chosen}
 
 -- ---- one part after the other
 
@@ -57,18 +58,35 @@ fork_nodes nodes place p i off on-part off_part e d =
     second : off ≡ suc place + size_of on-part
     second = d ∙ ap (λ (n : ℕ). n + size_of on-part) first
 
+-- the two cells that fix a free line have one free line less, and half of the room
+pub record Halves (cell on off : ℕ) : Type 0 where
+  pub on_fewer : suc (free_in on) ≡ free_in cell
+  pub off_fewer : suc (free_in off) ≡ free_in cell
+  pub on-half : 2 ^ suc (free_in cell) ≡ 2 * 2 ^ suc (free_in on)
+  pub off-half : 2 ^ suc (free_in cell) ≡ 2 * 2 ^ suc (free_in off)
+  pub some : 0 < 2 ^ suc (free_in on)
+
+half_room : (cell child : ℕ) → suc (free_in child) ≡ free_in cell → 2 ^ suc (free_in cell) ≡ 2 * 2 ^ suc (free_in child)
+half_room cell child fewer = ap (λ (n : ℕ). 2 ^ suc n) (sym fewer) ∙ pow-suc 2 (suc (free_in child)) ∙ mul_comm (2 ^ suc (free_in child)) 2
+
+pub halves : (cell line on off : ℕ) → cell < 729 → Free cell line × (on ≡ on_cell cell line) × (off ≡ off_cell cell line) → Halves cell on off
+halves cell line on off low (free, on-is, off-is) =
+    let less_on : suc (free_in on) ≡ free_in cell = subst (λ (n : ℕ). suc (free_in n) ≡ free_in cell) (sym on-is) (on_below cell line low free).fewer in
+    let less_off : suc (free_in off) ≡ free_in cell = subst (λ (n : ℕ). suc (free_in n) ≡ free_in cell) (sym off-is) (off_below cell line low free).fewer in
+    record { on_fewer = less_on; off_fewer = less_off; on-half = half_room cell on less_on; off-half = half_room cell off less_off; some = pow_pos (suc (free_in on)) }
+
 -- ---- a leaf
 
-module _ (wants line : ℕ → ℕ) (chosen : Chosen wants line) (cell : ℕ) (low : cell < 729) where
+module _ (wants : ℕ → ℕ) (table : List (Option ℕ)) (chosen : Chosen wants table) (cell : ℕ) (low : cell < 729) where
   -- where no line is chosen, the cell is constant
-  leaf_constant : 6 ≤ line cell → Constant wants cell
+  leaf_constant : get_or table cell None ≡ None → Constant wants cell
   leaf_constant none = go (constant_decided wants cell)
     where
       go : Constant wants cell ⊎ (Constant wants cell → ⊥) → Constant wants cell
       go (inl same) = same
-      go (inr varies) = absurd (let free = chosen.free cell low varies in let no_way : ⊥ = omega (arith, free.0, none) in no_way)
+      go (inr varies) = absurd (subst (λ (o : Option ℕ). IsSomeAnd o (Free cell)) none (chosen.free cell low varies))
 
-  pub leaf_written : 6 ≤ line cell → (nodes : List Node) (place : ℕ) → Written wants line cell place nodes (set nodes place (node.Leaf (wants (lowest cell)))) (place + 1)
+  pub leaf_written : get_or table cell None ≡ None → (nodes : List Node) (place : ℕ) → Written wants (line_at table) cell place nodes (set nodes place (node.Leaf (wants (lowest cell)))) (place + 1)
   leaf_written none nodes place = record {
     tree = leaf (wants (lowest cell));
     best = λ e l c. leaf_constant none e (lowest cell) l (lowest_small cell) c (lowest-covered cell);
@@ -79,36 +97,31 @@ module _ (wants line : ℕ → ℕ) (chosen : Chosen wants line) (cell : ℕ) (l
 
   -- ---- a fork
 
-  -- where a line is chosen, the cell varies
-  fork_varies : line cell < 6 → Constant wants cell → ⊥
-  fork_varies some same = let six = chosen.no_line cell low same in omega arith
+  module _ (line : ℕ) (some : get_or table cell None ≡ Some line) where
+    -- where a line is chosen, the cell varies
+    fork_varies : Constant wants cell → ⊥
+    fork_varies same = subst (λ (o : Option ℕ). IfSome o (λ _. ⊥)) some (subst (λ (o : Option ℕ). IfSome o (λ _. ⊥)) (sym (chosen.no_line cell low same)) tt)
 
-  pub fork_free : line cell < 6 → Free cell (line cell)
-  fork_free some = chosen.free cell low (fork_varies some)
+    line_is : line_at table cell ≡ line
+    line_is = ap (λ (o : Option ℕ). unwrap_or o 6) some
 
-  -- each part has one free line less
-  pub on_fewer : line cell < 6 → (k : ℕ) → k ≡ on_cell cell (line cell) → suc (free_in k) ≡ free_in cell
-  on_fewer some k e = subst (λ (n : ℕ). suc (free_in n) ≡ free_in cell) (sym e) (on_below cell (line cell) low (fork_free some)).fewer
-
-  pub off_fewer : line cell < 6 → (k : ℕ) → k ≡ off_cell cell (line cell) → suc (free_in k) ≡ free_in cell
-  off_fewer some k e = subst (λ (n : ℕ). suc (free_in n) ≡ free_in cell) (sym e) (off_below cell (line cell) low (fork_free some)).fewer
-
-  -- so it has half of the room
-  pub half_room : (child : ℕ) → suc (free_in child) ≡ free_in cell → 2 ^ suc (free_in cell) ≡ 2 * 2 ^ suc (free_in child)
-  half_room child fewer = ap (λ (n : ℕ). 2 ^ suc n) (sym fewer) ∙ pow-suc 2 (suc (free_in child)) ∙ mul_comm (2 ^ suc (free_in child)) 2
-
-  -- the fork is written when both parts are
-  pub fork_written : line cell < 6 → (place off end on_cell_lem off-cell : ℕ) (nodes mid last : List Node)
-      → on_cell_lem ≡ on_cell cell (line cell) → off-cell ≡ off_cell cell (line cell)
-      → Written wants line on_cell_lem (place + 1) nodes mid off → Written wants line off-cell off mid last end
-      → Written wants line cell place nodes (set last place (node.Fork (line cell) (place + 1) off)) end
-  fork_written some place off end on_cell_lem off-cell nodes mid last on-is off-is on off_part = record {
-    tree = fork (line cell) on.tree off_part.tree;
-    best = (fork_varies some, refl, subst (λ (n : ℕ). BestTree wants line n on.tree) on-is on.best, subst (λ (n : ℕ). BestTree wants line n off_part.tree) off-is off_part.best);
-    small = omega (arith, on.small, off_part.small, half_room on_cell_lem (on_fewer some on_cell_lem on-is), half_room off-cell (off_fewer some off-cell off-is));
-    end = omega (arith, off_part.end, on.end);
-    nodes =
-        ap (λ (l : List Node). set l place (node.Fork (line cell) (place + 1) off)) off_part.nodes
-        ∙ ap (λ (l : List Node). set (overwrite l off (nodes_from off off_part.tree)) place (node.Fork (line cell) (place + 1) off)) on.nodes
-        ∙ fork_nodes nodes place (place + 1) (line cell) off on.tree off_part.tree refl on.end;
-  }
+    -- the fork is written when both parts are
+    pub fork_written : (place off end on-cell off-cell : ℕ) (nodes mid last : List Node)
+        → Free cell line × (on-cell ≡ on_cell cell line) × (off-cell ≡ off_cell cell line)
+        → Written wants (line_at table) on-cell (place + 1) nodes mid off → Written wants (line_at table) off-cell off mid last end
+        → Written wants (line_at table) cell place nodes (set last place (node.Fork line (place + 1) off)) end
+    fork_written place off end on-cell off-cell nodes mid last (free, on-is, off-is) on off_part = record {
+      tree = fork line on.tree off_part.tree;
+      best = (
+        fork_varies,
+        line_is,
+        subst (λ (n : ℕ). BestTree wants (line_at table) n on.tree) on-is on.best,
+        subst (λ (n : ℕ). BestTree wants (line_at table) n off_part.tree) off-is off_part.best,
+      );
+      small = let h = halves cell line on-cell off-cell low (free, on-is, off-is) in omega (arith, on.small, off_part.small, h.on-half, h.off-half);
+      end = omega (arith, off_part.end, on.end);
+      nodes =
+          ap (λ (l : List Node). set l place (node.Fork line (place + 1) off)) off_part.nodes
+          ∙ ap (λ (l : List Node). set (overwrite l off (nodes_from off off_part.tree)) place (node.Fork line (place + 1) off)) on.nodes
+          ∙ fork_nodes nodes place (place + 1) line off on.tree off_part.tree refl on.end;
+    }

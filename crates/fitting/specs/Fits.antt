@@ -1,38 +1,33 @@
 -- What fitting a draft leaves in the nodes that it was lent, and what it tells.
-use Rattle.std.specs.Prelude.{◌≡◌, ℕ, ◌+◌, ◌<◌, ◌≤◌, List, ◌++◌, length, take, drop, Ok, Err, Result, slice_index}
+use Rattle.std.specs.Prelude.{◌≡◌, ℕ, ◌<◌, ◌≤◌, List, ◌++◌, map, length, take, drop, Ok, Err, Result, slice_index, slice_index_or}
 use Rattle.rules.specs.declared.Node.{Node}
 use Rattle.rules.specs.automata.Rules.{Rule}
 use Rattle.rules.specs.automata.Pruning.{Kinds, pruned_moves}
 use Rattle.rules.specs.trees.Trees.{Tree, Implements}
-use Rattle.rules.specs.trees.Layouts.{size_of, nodes_from, layout, top_of, Stands}
+use Rattle.rules.specs.trees.Layouts.{layout, top_of, Stands}
 use Rattle.rules.specs.trees.Costs.{Price}
-use Rattle.rules.specs.trees.Bests.{Fitted}
 use Rattle.rules.specs.watch.Holding.{tree_of}
 use Rattle.rules.specs.watch.Promises.{FittedAll}
 use Rattle.fitting.specs.declared.fit.FitRefusal.{FitRefusal}
 use Rattle.fitting.specs.declared.fit.FitRefusal.TheVariants as refusal
+use Rattle.fitting.specs.declared.fit.FittedTree.{FittedTree}
 use Rattle.fitting.specs.declared.fit.Fitting.{Fitting}
-use Rattle.fitting.specs.States.{overwrite}
 
 -- 23: fewer than 4,064 nodes
 abbrev pub refusal_number : FitRefusal → ℕ
 refusal_number refusal.FewNodes = 23
 
--- ---- one state
-
--- a state's fitted tree is written from a place on, and all other nodes are as they were; `behind` is the place behind it
-pub record NextFitted (price : Price) (rule : Rule) (q place : ℕ) (before after : List Node) (behind cost : ℕ) : Type 0 where
-  pub tree : Tree
-  pub fitted : Fitted price rule q tree cost
-  pub few : size_of tree ≤ 127
-  pub end : behind ≡ place + size_of tree
-  pub nodes : after ≡ overwrite before place (nodes_from place tree)
-
--- ---- all states
-
 -- the costs told, one for each state
 abbrev pub told_costs : Fitting → List ℕ
-told_costs told = take told.states told.costs
+told_costs told = map (λ t. t.cost) (take told.states told.trees)
+
+-- the top places told, one for each of the 32 places
+abbrev pub told_tops : Fitting → List ℕ
+told_tops told = map (λ t. t.top) told.trees
+
+-- what is told past the states
+abbrev pub no_tree : FittedTree
+no_tree = record { cost = 0; top = 0 }
 
 -- each state's tree implements the state's pruned moves, whichever numbers stand for its live, its safe and its release states
 abbrev pub ImplementsAll : Rule → List Tree → Type 0
@@ -55,11 +50,10 @@ pub record DraftFitted (price : Price) (rule : Rule) (before after : List Node) 
   pub within : told.behind ≤ 4064
   pub nodes : after ≡ layout trees ++ drop told.behind before
   -- each tree stands at the top place told
-  pub tops_are : (q : ℕ) → q < length rule.states → slice_index told.tops q ≡ top_of trees q
-  pub stands : (q : ℕ) → q < length rule.states → Stands after (slice_index told.tops q) (tree_of trees q)
+  pub tops_are : (q : ℕ) → q < length rule.states → slice_index (told_tops told) q ≡ top_of trees q
+  pub stands : (q : ℕ) → q < length rule.states → Stands after (slice_index (told_tops told) q) (tree_of trees q)
   -- past the states costs and tops are 0
-  pub no_cost : (q : ℕ) → length rule.states ≤ q → slice_index told.costs q ≡ 0
-  pub no_top : (q : ℕ) → length rule.states ≤ q → slice_index told.tops q ≡ 0
+  pub past : (q : ℕ) → length rule.states ≤ q → slice_index_or told.trees q no_tree ≡ no_tree
 
 -- fitting is refused where there are fewer than 4,064 nodes, with nothing written, and only there
 abbrev pub Answered : Price → Rule → List Node → List Node → Result Fitting FitRefusal → Type 0

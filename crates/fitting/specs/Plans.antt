@@ -40,10 +40,10 @@ pub record PlanOf (price : Price) (rule : Rule) (nodes : List Node) (plan : Plan
   pub tops_are : (q : ℕ) → q < length rule.states → slice_index plan.tops q ≡ top_of (plan_trees plan) q
   -- the lines, and the sets of states
   pub lines_are : plan.lines ≡ rule.lines
-  pub live_is : (q : ℕ) → (q ∈ plan.live) ↔ Live rule q
-  pub safe_is : (q : ℕ) → (q ∈ plan.safe) ↔ Safe rule q
-  pub starts_are : (q : ℕ) → (q ∈ plan.starts) ↔ Starts rule q
-  pub release_is : ReleaseSet rule plan.release
+  pub live_is : (q : ℕ) → (q ∈ plan.sets.live) ↔ Live rule q
+  pub safe_is : (q : ℕ) → (q ∈ plan.sets.safe) ↔ Safe rule q
+  pub starts_are : (q : ℕ) → (q ∈ plan.sets.starts) ↔ Starts rule q
+  pub release_is : ReleaseSet rule plan.sets.release
 
 -- ---- the one-state plan
 

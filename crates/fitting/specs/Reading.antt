@@ -1,5 +1,5 @@
 -- What is read off a list of nodes: the tree at a place, and whether a walk down from there stays within the list. And the sets of states that a plan keeps.
-use Rattle.std.specs.Prelude.{◌≡◌, ℕ, zero, suc, ◌^◌, ◌<◌, Bool, true, false, cond, ◌&&◌, List, [], ◌∷◌, length, get_or, Some, None, Option, ◌==◌, nat_lt, slice_index, slice_index_or}
+use Rattle.std.specs.Prelude.{◌≡◌, ℕ, zero, suc, ◌^◌, ◌<◌, Bool, true, false, cond, ◌&&◌, List, [], ◌∷◌, length, get_or, ◌==◌, nat_lt, slice_index, slice_index_or}
 use Rattle.events.specs.Sets.{set_of}
 use Rattle.rules.specs.declared.Node.{Node}
 use Rattle.rules.specs.declared.Node.TheVariants as node
@@ -54,11 +54,6 @@ GivesPruned rule nodes tops = (q : ℕ) → q < length rule.states → tabled 64
 -- the start states
 unfoldable pub start_states : List State → ℕ
 start_states states = set_of (length states) (λ q. (get_or states q (record { start = false; accepting = false })).start)
-
--- a state as a set, and none as the empty set
-abbrev pub as_set : Option ℕ → ℕ
-as_set None = 0
-as_set (Some q) = 2 ^ q
 
 -- the release state as a set, which is empty where no state is safe
 unfoldable pub release_set : Rule → ℕ

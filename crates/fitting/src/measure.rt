@@ -63,7 +63,7 @@ impl ForkNumbers {
     pub fn new(cost: u16, chance: u8, unpolled: u8, on: u64, off: u64) -> Option<ForkNumbers>
         ensures { MatchOption result (1 ≤ unpolled → Priced cost chance (unpolled - 1) on off → ⊥) (λ f. (f.cost ≡ cost) × (f.chance ≡ chance) × (f.unpolled ≡ unpolled) × (f.on ≡ on) × (f.off ≡ off)) }
     {
-        if cost < 1 || cost > 1000 || chance > 100 || unpolled < 1 || unpolled > 6 {
+        if !(1..=1000).contains(&cost) || chance > 100 || !(1..=6).contains(&unpolled) {
             return None;
         }
         let most = Self::most(unpolled);
@@ -77,30 +77,6 @@ impl ForkNumbers {
             on,
             off,
         })
-    }
-
-    // The line's own share of the expected cost, in the units of its place in the tree.
-    fn own_share(&self) -> u64
-        ensures is { result ≡ self.now.cost * 100 ^ self.now.unpolled }
-        ensures small { result ≤ 6000000000000000 }
-    {
-        self.cost as u64 * hundred_to(self.unpolled)
-    }
-
-    // The on part's share: its cost, by the chance of on.
-    fn on_share(&self) -> u64
-        ensures is { result ≡ self.now.chance * self.now.on }
-        ensures small { result ≤ 6000000000000000 }
-    {
-        self.chance as u64 * self.on
-    }
-
-    // The off part's share: its cost, by the chance of off.
-    fn off_share(&self) -> u64
-        ensures is { result ≡ (100 - self.now.chance) * self.now.off }
-        ensures small { result ≤ 6000000000000000 }
-    {
-        (100 - self.chance as u64) * self.off
     }
 }
 
@@ -132,7 +108,9 @@ impl Measure for Expected {
     ghost bounded = { λ m. expected_lawful.bounded };
 
     fn price(&self, fork: ForkNumbers) -> u64 {
-        fork.own_share() + fork.on_share() + fork.off_share()
+        let chance = fork.chance as u64;
+        let own = fork.cost as u64 * hundred_to(fork.unpolled);
+        own + chance * fork.on + (100 - chance) * fork.off
     }
 }
 

@@ -8,6 +8,7 @@ ghost use Rattle.fitting.specs.Tables.{value_at};
 use crate::best::fill_tables;
 use crate::measure::Measure;
 use crate::tree::write_tree;
+use events::Cell;
 use rules::{Line, Node};
 
 // What fitting a state tells: the place behind its tree, and what the tree costs.
@@ -15,17 +16,6 @@ use rules::{Line, Node};
 pub(crate) struct Fit {
     pub behind: usize,
     pub cost: u64,
-}
-
-// The cost of the best tree is that of cell 0, which fixes no line.
-fn told(behind: usize, costs: &[u64; 729]) -> Fit
-    ensures behind { result.behind ≡ behind }
-    ensures cost { result.cost ≡ value_at costs.now 0 }
-{
-    Fit {
-        behind,
-        cost: costs[0],
-    }
 }
 
 // Fits a state that wants a set at each of the 64 events: writes its best tree from a place on, and tells the place behind it and its cost.
@@ -42,8 +32,12 @@ pub(crate) fn fit_state<M: Measure>(
     ensures { StateFitted (M.price measure.now) lines.now (value_at sets.now) place nodes.old nodes.new result.behind result.cost }
 {
     let mut costs = [0u64; 729];
-    let mut chosen = [0u8; 729];
+    let mut chosen = [None; 729];
     fill_tables(measure, lines, sets, &mut costs, &mut chosen);
-    let behind = write_tree(&chosen, sets, 0, nodes, place);
-    told(behind, &costs)
+    // cell 0 fixes no line, so its tree is the state's
+    let behind = write_tree(&chosen, sets, Cell { number: 0 }, nodes, place);
+    Fit {
+        behind,
+        cost: costs[0],
+    }
 }

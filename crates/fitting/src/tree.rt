@@ -3,22 +3,18 @@ ghost use Rattle.std.specs.Prelude.{◌≡◌, suc, ◌+◌, ◌^◌, ◌<◌, �
 ghost use Rattle.events.specs.Cells.{free_in, lowest};
 ghost use Rattle.rules.specs.declared.Node.TheVariants as node;
 ghost use Rattle.fitting.specs.States.{Written};
-ghost use Rattle.fitting.specs.Tables.{value_at, Chosen};
+ghost use Rattle.fitting.specs.Tables.{value_at, line_at, Chosen};
 
-use crate::cells::{off_cell, on_cell};
-use events::lowest_event;
+use crate::cells::split;
+use events::Cell;
 use rules::Node;
 
-// How many lines there are. A table's entry that is no line stands for a leaf.
-const LINES: u8 = 6;
-
 // The leaf of a cell, with the set of the lowest event that the cell covers.
-fn leaf(sets: &[u32; 64], cell: u16) -> Node
-    requires { cell < 729 }
-    ensures { result ≡ node.Leaf (value_at sets.now (lowest cell)) }
+fn leaf(sets: &[u32; 64], cell: Cell) -> Node
+    ensures { result ≡ node.Leaf (value_at sets.now (lowest cell.number)) }
 {
     Node::Leaf {
-        set: sets[lowest_event(cell) as usize],
+        set: sets[cell.lowest_event() as usize],
     }
 }
 
@@ -36,26 +32,28 @@ fn fork(line: u8, place: usize, off: usize) -> Node
 }
 
 // Writes the best tree of a cell from a place on, by the table of chosen lines, and answers the place behind it.
+// The list and the place go along as parameters: a tree written by recursion in plain code is a form that the product's users named.
 pub(crate) fn write_tree(
-    chosen: &[u8; 729],
+    chosen: &[Option<u8>; 729],
     sets: &[u32; 64],
-    cell: u16,
+    cell: Cell,
     nodes: &mut [Node],
     place: usize,
 ) -> usize
-    requires cell { cell < 729 }
-    requires chosen { Chosen (value_at sets.now) (value_at chosen.now) }
-    requires room { place + 2 ^ suc (free_in cell) ≤ suc (length nodes.old) }
-    requires low { place + 2 ^ suc (free_in cell) ≤ 2 ^ 16 }
-    ensures { Written (value_at sets.now) (value_at chosen.now) cell place nodes.old nodes.new result }
+    requires chosen { Chosen (value_at sets.now) chosen.now }
+    requires room { place + 2 ^ suc (free_in cell.number) ≤ suc (length nodes.old) }
+    requires low { place + 2 ^ suc (free_in cell.number) ≤ 2 ^ 16 }
+    ensures { Written (value_at sets.now) (line_at chosen.now) cell.number place nodes.old nodes.new result }
 {
-    let line = chosen[cell as usize];
-    if line >= LINES {
+    let Some(line) = chosen[cell.number as usize] else {
         nodes[place] = leaf(sets, cell);
         return place + 1;
-    }
-    let off = write_tree(chosen, sets, on_cell(cell, line), nodes, place + 1);
-    let end = write_tree(chosen, sets, off_cell(cell, line), nodes, off);
+    };
+    let Some(parts) = split(cell, line) else {
+        unreachable()
+    };
+    let off = write_tree(chosen, sets, parts.on, nodes, place + 1);
+    let end = write_tree(chosen, sets, parts.off, nodes, off);
     nodes[place] = fork(line, place, off);
     end
 }

@@ -1,3 +1,2 @@
-pub mod Names
-pub mod Cards
+pub mod Lines
 pub mod Checked

@@ -6,6 +6,7 @@ use Rattle.codec.specs.Fault.{card_report}
 use Rattle.rules.specs.declared.Word.{Word}
 use Rattle.rules.specs.declared.Word.TheVariants as word
 use Rattle.rules.specs.declared.Call.TheVariants as call
+use Rattle.rules.specs.declared.Refusal.{Refusal}
 use Rattle.rules.specs.declared.Answer.{Answer}
 use Rattle.rules.specs.declared.Answer.TheVariants as answer
 use Rattle.rules.specs.automata.Rules.{Rule, Event}
@@ -35,15 +36,15 @@ abbrev pub take_text : ℕ → ℕ → Word → List ℕ
 take_text count lines w = decimal count ++ (codes " " ++ (decimal lines ++ (codes " " ++ (word_text w ++ codes "\n"))))
 
 -- the line of one answer, behind which `later` stands: a take has one line and goes on, and a refusal is the last line; takes answer nothing else
-abbrev pub answer_text : ℕ → Answer → List ℕ → List ℕ
-answer_text count (answer.Taken v lines) later = take_text count lines (word_of v) ++ later
-answer_text count (answer.Shown v n) later = []
-answer_text count (answer.Tried w n) later = []
-answer_text count answer.Armed later = []
-answer_text count (answer.Refused why) later = refusal_text (number_of why) (index_of why)
+abbrev pub answer_text : ℕ → Result Answer Refusal → List ℕ → List ℕ
+answer_text count (Ok (answer.Taken taken)) later = take_text count taken.polled (word_of taken.verdict) ++ later
+answer_text count (Ok (answer.Shown shown)) later = []
+answer_text count (Ok (answer.Tried tried)) later = []
+answer_text count (Ok answer.Armed) later = []
+answer_text count (Err why) later = refusal_text (number_of why) (index_of why)
 
 -- the answers of takes, after `taken` events were taken, up to the first refusal
-unfoldable pub takes_text : ℕ → List Answer → List ℕ
+unfoldable pub takes_text : ℕ → List (Result Answer Refusal) → List ℕ
 takes_text taken [] = []
 takes_text taken (a ∷ answers) = answer_text (suc taken) a (takes_text (suc taken) answers)
 
@@ -54,7 +55,7 @@ takes_text taken (a ∷ answers) = answer_text (suc taken) a (takes_text (suc ta
 pub record Listed (rule : Rule) (log text : List ℕ) : Type 0 where
   pub trees : List Tree
   pub costs : List ℕ
-  pub answers : List Answer
+  pub answers : List (Result Answer Refusal)
   pub left : List ℕ
   -- the log is a list of events that can come
   pub comes : AllByRecursion (Event rule) log
@@ -69,8 +70,8 @@ readable (Some bytes) = cond (nat_le (length bytes) 65536) (Some bytes) None
 -- the rule that a file holds, without the names
 abbrev pub rule_read : List ℕ → Contents → Rule
 rule_read f c = record {
-  lines = map (λ l. l.line) (rule_of f c).lines;
-  states = map (λ s. s.state) (rule_of f c).states;
+  lines = map (λ l. l.value) (rule_of f c).lines;
+  states = map (λ s. s.value) (rule_of f c).states;
   moves = (rule_of f c).moves;
 }
 

@@ -1,5 +1,7 @@
 // What the program prints, as a value.
 #![tactic(auto)]
 
-pub mod card;
+mod card;
+mod cards;
 pub mod output;
+mod refused;

@@ -4,7 +4,7 @@ use Rattle.std.specs.List.{AllByRecursion}
 use Rattle.std.proofs.lemmas.List.{length-map}
 use Rattle.std.proofs.ByRecursion.{All-map, All-weaker}
 use Rattle.std.proofs.lemmas.Bool.{ltb-true, eqb-true, or_cases, and_parts}
-use Rattle.codec.specs.declared.read.Read.{Read}
+use Rattle.codec.specs.Reading.{Read}
 use Rattle.codec.specs.declared.fault.CardFault.TheVariants as cards
 use Rattle.codec.specs.Field.{field_at}
 use Rattle.codec.proofs.Steps.{inside_ok, then_ok, else_ok, if_ok}
@@ -14,11 +14,12 @@ use Rattle.rules.specs.automata.Rules.{Rule, StateWith, LineInRange, MoveInRange
 use Rattle.rulefile.specs.declared.draft.Draft.{Draft}
 use Rattle.rulefile.specs.declared.fault.FileFault.{FileFault}
 use Rattle.rulefile.specs.declared.fault.FileFault.TheVariants as fault
-use Rattle.rulefile.specs.declared.record.LineRecord.{LineRecord}
-use Rattle.rulefile.specs.declared.record.StateRecord.{StateRecord}
-use Rattle.rulefile.specs.Card.{LineValue, line_at, move_at, name_at}
-use Rattle.rulefile.specs.File.{Contents, file_of, count_at, line_cards_at, state_cards_at, move_cards_at, line_record_at, move_record_at, next_move_at, before, follows, row_from, any_start, rows_of_lines, rows_of_states, rows_of_moves}
-use Rattle.rulefile.specs.Rule.{line_in, state_in}
+use Rattle.rulefile.specs.declared.record.Record.{Record}
+use Rattle.rulefile.specs.Records.{LineRecord, LineValue}
+use Rattle.rulefile.specs.Records.{StateRecord}
+use Rattle.rulefile.specs.Card.{line_at, move_at, name_at}
+use Rattle.rulefile.specs.File.{Contents, file_of, count_at, line_cards_at, state_cards_at, move_cards_at, line_record_at, move_record_among, next_move_at, before, follows, row_from, any_start, rows_of_lines, rows_of_states, rows_of_moves}
+use Rattle.rulefile.specs.Rule.{named_in}
 use Rattle.rulefile.proofs.Files.{parts_of}
 use Rattle.pruning.specs.Drafts.{rule_of}
 use Rattle.pruning.specs.Computed.{InRange, Ranged}
@@ -28,7 +29,7 @@ use Rattle.pruning.specs.Computed.{InRange, Ranged}
 field_within : (f : List ℕ) (p low high : ℕ) (n : Read ℕ) → field_at f p low high ≡ Ok n → (low ≤ n.value) × (n.value ≤ high)
 field_within f p low high n h = let r = ranged_within cards.Short cards.Number cards.Range f p low high n h in (r.0, r.1)
 
-line_fields : (f : List ℕ) (p : ℕ) (n : Read LineValue) → line_at f p ≡ Ok n → LineInRange n.value.line
+line_fields : (f : List ℕ) (p : ℕ) (n : Read LineValue) → line_at f p ≡ Ok n → LineInRange n.value.value
 line_fields f p n h =
     let cost = then_ok (λ e. e) (field_at f p 1 1000) _ n h in
     let chance = then_ok (λ e. e) (field_at f cost.0.next 0 100) _ n cost.2 in
@@ -38,7 +39,7 @@ line_fields f p n h =
     let chances = field_within f cost.0.next 0 100 chance.0 chance.1 in
     rw is (record { cost_low = costs.0; cost_high = costs.1; chance_high = chances.1 })
 
-line_within : (f : List ℕ) (p : ℕ) (n : Read LineRecord) → line_record_at f p ≡ Ok n → LineInRange n.value.line
+line_within : (f : List ℕ) (p : ℕ) (n : Read LineRecord) → line_record_at f p ≡ Ok n → LineInRange n.value.value
 line_within f p n h =
     let here = else_ok (leb (length f) p) _ _ n h in
     let card = then_ok fault.Card (line_at f p) _ n here.1 in
@@ -69,7 +70,7 @@ Next k last m = Within k m × (follows last m ≡ true)
 next_within : (f : List ℕ) (k : ℕ) → 0 < k → (last : Option Move) (p : ℕ) (n : Read Move) → next_move_at f k last p ≡ Ok n → Next k last n.value
 unfolding Next
 next_within f k some last p n h =
-    let a = then_ok (λ e. e) (move_record_at f p k) _ n h in
+    let a = then_ok (λ e. e) (move_record_among f p (k - 1)) _ n h in
     let here = else_ok (leb (length f) p) _ _ a.0 a.1 in
     let b = then_ok fault.Card (move_at f p k) _ a.0 here.1 in
     let c = if_ok (follows last a.0.value) _ _ n a.2 in
@@ -80,24 +81,24 @@ next_within f k some last p n h =
 -- ---- rows
 
 -- each is as it should be after the one before
-InRow : {A S : Type 0} → (A → S) → (S → A → Type 0) → S → List A → Type 0
+InRow : {A S : Type 0} → (S → A → S) → (S → A → Type 0) → S → List A → Type 0
 InRow left P s [] = Unit {0}
-InRow left P s (x ∷ xs) = P s x × InRow left P (left x) xs
+InRow left P s (x ∷ xs) = P s x × InRow left P (left s x) xs
 
-in_row : {A S : Type 0} (left : A → S) (one : S → ℕ → Result (Read A) FileFault) (P : S → A → Type 0) → ((s : S) (p : ℕ) (n : Read A) → one s p ≡ Ok n → P s n.value)
+in_row : {A S : Type 0} (left : S → A → S) (one : S → ℕ → Result (Read A) FileFault) (P : S → A → Type 0) → ((s : S) (p : ℕ) (n : Read A) → one s p ≡ Ok n → P s n.value)
     → (k : ℕ) (s : S) (p : ℕ) (r : Read (List A)) → row_from left one s p k ≡ Ok r → InRow left P s r.value
 unfolding row_from InRow
 in_row left one P holds zero s p r h = let z = sym (inside_ok h) in rw z tt
 in_row left one P holds (suc k) s p r h =
     let a = then_ok (λ e. e) (one s p) _ r h in
-    let rest = then_ok (λ e. e) (row_from left one (left a.0.value) a.0.next k) _ r a.2 in
+    let rest = then_ok (λ e. e) (row_from left one (left s a.0.value) a.0.next k) _ r a.2 in
     let z = sym (inside_ok rest.2) in
-    rw z (holds s p a.0 a.1, in_row left one P holds k (left a.0.value) a.0.next rest.0 rest.1)
+    rw z (holds s p a.0 a.1, in_row left one P holds k (left s a.0.value) a.0.next rest.0 rest.1)
 
-row_all : {A S : Type 0} (left : A → S) (P : S → A → Type 0) (Q : A → Type 0) → ((s : S) (x : A) → P s x → Q x) → (s : S) (xs : List A) → InRow left P s xs → AllByRecursion Q xs
+row_all : {A S : Type 0} (left : S → A → S) (P : S → A → Type 0) (Q : A → Type 0) → ((s : S) (x : A) → P s x → Q x) → (s : S) (xs : List A) → InRow left P s xs → AllByRecursion Q xs
 unfolding InRow
 row_all left P Q weak s [] h = tt
-row_all left P Q weak s (x ∷ xs) h = (weak s x h.0, row_all left P Q weak (left x) xs h.1)
+row_all left P Q weak s (x ∷ xs) h = (weak s x h.0, row_all left P Q weak (left s x) xs h.1)
 
 -- ---- ascending moves
 
@@ -112,13 +113,13 @@ before_is a b e = from (or_cases _ _ e)
     from (inl h) = inl (ltb-true _ _ h)
     from (inr h) = let p = and_parts _ _ h in inr (eqb-true _ _ p.0, to (or_cases _ _ p.1))
 
-after_ascends : (k : ℕ) (a : Move) (ms : List Move) → InRow Some (Next k) (Some a) ms → (j : ℕ) (d : Move) → j < length ms → Before (get_or (a ∷ ms) j d) (get_or ms j d)
+after_ascends : (k : ℕ) (a : Move) (ms : List Move) → InRow (λ _ m. Some m) (Next k) (Some a) ms → (j : ℕ) (d : Move) → j < length ms → Before (get_or (a ∷ ms) j d) (get_or ms j d)
 unfolding InRow Next
 after_ascends k a [] h j d l = absurd (not-suc-le-zero l)
 after_ascends k a (m ∷ ms) h zero d l = before_is a m h.0.1
 after_ascends k a (m ∷ ms) h (suc j) d l = after_ascends k m ms h.1 j d (le_of_suc-le-suc l)
 
-ascends : (k : ℕ) (ms : List Move) → InRow Some (Next k) None ms → Ascending ms
+ascends : (k : ℕ) (ms : List Move) → InRow (λ _ m. Some m) (Next k) None ms → Ascending ms
 unfolding InRow Next
 ascends k [] h j d l = absurd (not-suc-le-zero l)
 ascends k (m ∷ ms) h j d l =
@@ -127,27 +128,23 @@ ascends k (m ∷ ms) h j d l =
 
 -- ---- states
 
-states_same : (f : List ℕ) (ss : List StateRecord) → map (λ s. s.state) (map (state_in f) ss) ≡ map (λ s. s.state) ss
-states_same f [] = refl
-states_same f (s ∷ ss) = ap (λ xs. s.state ∷ xs) (states_same f ss)
+values_same : {T : Type 0} (f : List ℕ) (rs : List (Record T)) → map (λ r. r.value) (map (named_in f) rs) ≡ map (λ r. r.value) rs
+values_same f [] = refl
+values_same f (r ∷ rs) = ap (λ xs. r.value ∷ xs) (values_same f rs)
 
-lines_same : (f : List ℕ) (ls : List LineRecord) → map (λ l. l.line) (map (line_in f) ls) ≡ map (λ l. l.line) ls
-lines_same f [] = refl
-lines_same f (l ∷ ls) = ap (λ xs. l.line ∷ xs) (lines_same f ls)
-
-start_is : (ss : List StateRecord) → any_start ss ≡ true → (q : ℕ) × StateWith (λ s. T s.start) (map (λ s. s.state) ss) q
+start_is : (ss : List StateRecord) → any_start ss ≡ true → (q : ℕ) × StateWith (λ s. T s.start) (map (λ s. s.value) ss) q
 start_is [] e = absurd (subst T (sym e) tt)
-start_is (s ∷ ss) e = go (start_is ss) (or_cases s.state.start (any_start ss) e)
+start_is (s ∷ ss) e = go (start_is ss) (or_cases s.value.start (any_start ss) e)
   where
-    go : (any_start ss ≡ true → (q : ℕ) × StateWith (λ s. T s.start) (map (λ s. s.state) ss) q) → (s.state.start ≡ true) ⊎ (any_start ss ≡ true)
-        → (q : ℕ) × StateWith (λ s. T s.start) (map (λ s. s.state) (s ∷ ss)) q
+    go : (any_start ss ≡ true → (q : ℕ) × StateWith (λ s. T s.start) (map (λ s. s.value) ss) q) → (s.value.start ≡ true) ⊎ (any_start ss ≡ true)
+        → (q : ℕ) × StateWith (λ s. T s.start) (map (λ s. s.value) (s ∷ ss)) q
     go ih (inl h) = (0, subst T (sym h) tt)
     go ih (inr h) = let r = ih h in (suc r.0, r.1)
 
 -- ---- the whole file
 
 module _ (f : List ℕ) (c : Contents) (h : file_of f ≡ Ok c) where
-  rows_within : AllByRecursion (λ l. LineInRange l.line) c.lines × (any_start c.states ≡ true)
+  rows_within : AllByRecursion (λ l. LineInRange l.value) c.lines × (any_start c.states ≡ true)
   unfolding file_of
   rows_within =
       let version = then_ok (λ e. e) (count_at f 0 1 1) _ c h in
@@ -159,33 +156,33 @@ module _ (f : List ℕ) (c : Contents) (h : file_of f ≡ Ok c) where
       let moves = then_ok (λ e. e) (move_cards_at f n.0.value m.0.next m.0.value) _ c m.2 in
       let all = else_ok (ltb moves.0.next (length f)) _ _ c moves.2 in
       let is = sym (inside_ok all.1) in
-      let rows = in_row {S = Unit {0}} (λ _. tt) (λ _. line_record_at f) (λ _ l. LineInRange l.line) (λ s p n e. line_within f p n e) 6 tt version.0.next lines.0 lines.1 in
-      rw is (row_all {S = Unit {0}} (λ _. tt) (λ _ l. LineInRange l.line) (λ l. LineInRange l.line) (λ s x p. p) tt lines.0.value rows, start.0)
+      let rows = in_row {S = Unit {0}} (λ _ _. tt) (λ _. line_record_at f) (λ _ l. LineInRange l.value) (λ s p n e. line_within f p n e) 6 tt version.0.next lines.0 lines.1 in
+      rw is (row_all {S = Unit {0}} (λ _ _. tt) (λ _ l. LineInRange l.value) (λ l. LineInRange l.value) (λ s x p. p) tt lines.0.value rows, start.0)
 
-  moves_row : InRow Some (Next (length c.states)) None c.moves
+  moves_row : InRow (λ _ m. Some m) (Next (length c.states)) None c.moves
   moves_row =
       let p = parts_of f c h in
-      in_row Some (next_move_at f (length c.states)) (Next (length c.states)) (next_within f (length c.states) p.some)
+      in_row (λ _ m. Some m) (next_move_at f (length c.states)) (Next (length c.states)) (next_within f (length c.states) p.some)
       (length c.moves) None c.moves_start (record { value = c.moves; next = p.moves_next }) p.moves_read
 
   moves_within : AllByRecursion (Within (length c.states)) c.moves
   unfolding Next
-  moves_within = row_all Some (Next (length c.states)) (Within (length c.states)) (λ s x p. p.0) None c.moves moves_row
+  moves_within = row_all (λ _ m. Some m) (Next (length c.states)) (Within (length c.states)) (λ s x p. p.0) None c.moves moves_row
 
 -- the rule of records
 abbrev rule_from : List ℕ → List LineRecord → List StateRecord → List Move → Rule
-rule_from f ls ss ms = record { lines = map (λ l. l.line) (map (line_in f) ls); states = map (λ s. s.state) (map (state_in f) ss); moves = ms }
+rule_from f ls ss ms = record { lines = map (λ l. l.value) (map (named_in f) ls); states = map (λ s. s.value) (map (named_in f) ss); moves = ms }
 
 contents_well : (f : List ℕ) (c : Contents) → file_of f ≡ Ok c → WellFormed (rule_from f c.lines c.states c.moves)
 contents_well f c h =
     let p = parts_of f c h in
-    let count : length (map (λ s. s.state) (map (state_in f) c.states)) ≡ length c.states = length-map _ _ ∙ length-map c.states (state_in f) in
+    let count : length (map (λ s. s.value) (map (named_in f) c.states)) ≡ length c.states = length-map _ _ ∙ length-map c.states (named_in f) in
     record {
-      six_lines = length-map _ _ ∙ (length-map c.lines (line_in f) ∙ p.six);
-      lines_fit = rw (lines_same f c.lines) (All-map LineInRange (λ l. l.line) c.lines (rows_within f c h).0);
+      six_lines = length-map _ _ ∙ (length-map c.lines (named_in f) ∙ p.six);
+      lines_fit = rw (values_same f c.lines) (All-map LineInRange (λ l. l.value) c.lines (rows_within f c h).0);
       some_state = omega (arith, count, p.some);
       few_states = omega (arith, count, p.few);
-      some_start = rw (states_same f c.states) (start_is c.states (rows_within f c h).1);
+      some_start = rw (values_same f c.states) (start_is c.states (rows_within f c h).1);
       few_moves = p.few_moves;
       moves_fit = All-weaker (Within (length c.states)) (MoveInRange (rule_from f c.lines c.states c.moves))
           (λ m w. record { from_low = rw count w.leaves; cell_low = w.on_cell; to_low = rw count w.enters }) c.moves (moves_within f c h);
@@ -209,11 +206,11 @@ records_well f ls ss ms ok el es em = go (file_of f) refl
 pub draft_well : (d : Draft) → WellFormed (rule_of d)
 draft_well d = records_well d.file.now d.lines d.states.now d.moves.now d.read d.line_rows d.state_rows d.move_rows
 
-pub draft_states : (d : Draft) → (rule_of d).states ≡ map (λ s. s.state) d.states.now
-draft_states d = states_same d.file.now d.states.now
+pub draft_states : (d : Draft) → (rule_of d).states ≡ map (λ s. s.value) d.states.now
+draft_states d = values_same d.file.now d.states.now
 
 pub draft_few : (d : Draft) → length d.states.now ≤ 32
-draft_few d = omega (arith, (draft_well d).few_states, ap length (draft_states d), length-map d.states.now (λ s. s.state))
+draft_few d = omega (arith, (draft_well d).few_states, ap length (draft_states d), length-map d.states.now (λ s. s.value))
 
 pub draft_ranged : (d : Draft) → Ranged (rule_of d).moves
 draft_ranged d = All-weaker (MoveInRange (rule_of d)) InRange

@@ -2,19 +2,18 @@
 use Rattle.std.proofs.Common.{◌≡◌, ℕ, ◌^◌, ◌<◌, Bool, true, false, not, ◌&&◌, ◌||◌, T, eqb, ◌⊎◌, ◌↔◌, List, [], ◌∷◌, length, get_or, sym, refl, ap, ◌∙◌, subst, ap₂, inl, inr, arith, eqb→eq}
 use mathlib.Core.Path.{fun_ext}
 use lib.Bits.{bit_and}
-use lib.Count.{ones}
 use Rattle.std.proofs.lemmas.Nat.{pow_below}
 use Rattle.std.proofs.lemmas.Bool.{eq-eqb, ne_eqb}
-use Rattle.events.specs.Sets.{has, ◌∈◌, Subset}
-use Rattle.events.proofs.SetLaws.{true_T, TOr, T_and, ∈-set_of, set_of_small, ∈_below, ∈_some_in, ∈_none_in, ∈_one, ∈_one_is, grown}
+use Rattle.events.specs.Sets.{has, set_of, ◌∈◌, Subset}
+use Rattle.events.proofs.SetLaws.{true_T, TOr, T_and, ∈-set_of, set_of_small, ∈_below, ∈_some_in, ∈_none_in, ∈_one, ∈_one_is}
 use Rattle.rules.specs.declared.Move.{Move}
 use Rattle.rules.specs.declared.State.{State}
-use Rattle.rules.specs.automata.Rules.{Rule, Any, Accepts, WellFormed}
+use Rattle.rules.specs.automata.Rules.{Rule, Any, Accepts, StateWith, WellFormed}
 use Rattle.rules.specs.automata.Runs.{Live}
 use Rattle.rules.proofs.automata.MaskLaws.{Edge, Way, ReachesInto, into_more, reach_is, Turns, live_is, edge_is}
 use Rattle.rules.proofs.automata.RuleLaws.{state_at_lem, step_below}
 use Rattle.pruning.specs.Computed.{meets, entry, leads, targets, accepting, widened, reaching, turning, live_in, live_states}
-use Rattle.pruning.proofs.RoundLaws.{Keeps, Grows, settled_keep, settled_done, settled-next, grown_settled}
+use Rattle.pruning.proofs.RoundLaws.{Keeps, Grows, settled_keep, grown_settled}
 use Rattle.pruning.proofs.LoopLaws.{targets_small}
 
 -- ---- sets with a common member
@@ -43,6 +42,14 @@ widened_is edges set q =
       (λ h. is.1 (h.0, (TOr (has set q) (meets (edges q) set)).1 h.1)),
     )
 
+-- the set of the states that a test finds is that of the states with what it tests
+pub flagged_is : (flag : State → Bool) (states : List State) (q : ℕ)
+    → (q ∈ set_of (length states) (λ k. flag (get_or states k (record { start = false; accepting = false })))) ↔ StateWith (λ s. T (flag s)) states q
+flagged_is flag states q =
+    let at = state_at_lem (λ s. T (flag s)) states (record { start = false; accepting = false }) q in
+    let set = ∈-set_of (length states) (λ k. flag (get_or states k (record { start = false; accepting = false }))) q in
+    ((λ h. at.1 (set.0 h)), (λ h. set.1 (at.0 h)))
+
 pub widened_small : (edges : ℕ → ℕ) (set : ℕ) → widened edges set < 2 ^ 32
 unfolding widened
 widened_small edges set = set_of_small 32 (λ q. has set q || meets (edges q) set)
@@ -54,22 +61,9 @@ module _ (edges : ℕ → ℕ) where
   grows : Grows (widened edges)
   grows set small q h = (widened_is edges set q).1 (∈_below 32 q set small h, inl h)
 
-  -- the loop: a round that changes the set adds a member, and the settled set stays the same
-  pub widened_more : (set next : ℕ) → set < 2 ^ 32 → next ≡ widened edges set → (next ≡ set → ⊥) → ones set < ones next
-  widened_more set next small is ne =
-      subst (λ (n : ℕ). ones set < ones n) (sym is) (grown 32 set (widened edges set) small (widened_small edges set) (grows set small) (λ e. ne (is ∙ sym e)))
-
   pub reaching_fixed : (set : ℕ) → set < 2 ^ 32 → widened edges (reaching edges set) ≡ reaching edges set
   unfolding reaching
   reaching_fixed set small = grown_settled (widened edges) keeps grows set small
-
-  pub reaching-next : (set : ℕ) → set < 2 ^ 32 → reaching edges (widened edges set) ≡ reaching edges set
-  unfolding reaching
-  reaching-next set small = settled-next (widened edges) set (grown_settled (widened edges) keeps grows set small)
-
-  pub reaching_done : (set : ℕ) → widened edges set ≡ set → reaching edges set ≡ set
-  unfolding reaching
-  reaching_done set e = settled_done (widened edges) set e
 
   -- what holds of the seed, and is kept by each round
   pub reaching_keep : (P : ℕ → Type 0) → ((set : ℕ) → P set → P (widened edges set)) → (set : ℕ) → P set → P (reaching edges set)
@@ -145,10 +139,7 @@ module _ (rule : Rule) (well : WellFormed rule) where
 
   pub accepting_is : (q : ℕ) → (q ∈ accepting rule.states) ↔ Accepts rule q
   unfolding accepting
-  accepting_is q =
-      let at = state_at_lem (λ s. T s.accepting) rule.states (record { start = false; accepting = false }) q in
-      let set = ∈-set_of (length rule.states) (λ q. (get_or rule.states q (record { start = false; accepting = false })).accepting) q in
-      ((λ h. at.1 (set.0 h)), (λ h. set.1 (at.0 h)))
+  accepting_is = flagged_is (λ s. s.accepting) rule.states
 
   accepts_below : (q : ℕ) → Accepts rule q → q < 32
   accepts_below q h = omega (arith, ((state_at_lem (λ s. T s.accepting) rule.states (record { start = false; accepting = false }) q).0 h).0, well.few_states)

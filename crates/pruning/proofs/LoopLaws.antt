@@ -1,38 +1,100 @@
 -- The steps of the loops that gather sets of states and events.
-use Rattle.std.proofs.Common.{◌≡◌, ℕ, zero, suc, ◌+◌, ◌^◌, ◌<◌, ◌≤◌, Bool, true, false, cond, ◌&&◌, ◌||◌, eqb, ltb, ◌⊎◌, List, [], ◌∷◌, ◌++◌, length, get_or, take, set, replicate, sym, refl, ap, ◌∙◌, subst, ap₂, inl, inr, add-one, arith, length-set, get_or-set_other, get_or-set_same}
+use Rattle.std.proofs.Common.{◌≡◌, ℕ, zero, suc, ◌+◌, ◌^◌, ◌<◌, ◌≤◌, Bool, true, false, ◌&&◌, ◌||◌, eqb, ltb, ◌⊎◌, List, map, length, get_or, take, set, replicate, sym, refl, ap, ◌∙◌, subst, ap₂, inl, inr, arith, length-set, get_or-set_other, get_or-set_same}
 use lib.Bits.{bit_or, or_lt}
+use Rattle.std.specs.List.{slice_get, list_any}
+use Rattle.std.specs.Option.{MatchOption}
+use Rattle.std.proofs.Math.Bool.{or-false}
+use Rattle.std.proofs.Math.Pow.{pow_mono}
 use Rattle.std.proofs.lemmas.Nat.{pow_below, pow_pos}
-use Rattle.std.proofs.lemmas.List.{take_more, take_all}
-use Rattle.std.proofs.lemmas.Bool.{cases_eq, eq-eqb, ne_eqb, lt-ltb}
+use Rattle.std.proofs.lemmas.List.{take_all, length-map, get_or-map}
+use Rattle.std.proofs.lemmas.List.Folds.{list_any_more}
+use Rattle.std.proofs.lemmas.Option.{MatchOption-at_some, MatchOption-at_none, slice_get-get_or, slice_get_past}
+use Rattle.std.proofs.lemmas.Bool.{cases_eq, cases_lt, eq-eqb, ne_eqb, lt-ltb}
 use Rattle.events.specs.Cells.{covers}
 use Rattle.events.specs.Sets.{has, set_of}
-use Rattle.events.proofs.SetLaws.{has-or, has_one, has_none, has-set_of, same_mask, set_of_small}
+use Rattle.events.proofs.SetLaws.{has-or, has_one, has_none, has_above, has-set_of, same_mask, set_of_small}
 use Rattle.rules.specs.declared.Move.{Move}
-use Rattle.pruning.specs.Computed.{InRange, leads, targets, covered, covered_into}
+use Rattle.rules.specs.declared.State.{State}
+use Rattle.rulefile.specs.Records.{StateRecord}
+use Rattle.pruning.specs.Computed.{InRange, leads, targets}
 
 -- ---- a set from a test of each number
 
-pub put_none : (f : ℕ → Bool) → 0 ≡ set_of 0 f
-unfolding set_of
-put_none f = refl
+-- the set holds those of the numbers below q that the test found to pass, and none from q on
+pub record Tried (P : ℕ → Bool → Type 0) (q set : ℕ) : Type 0 where
+  pub tried : (k : ℕ) → k < q → P k (has set k)
+  pub left : (k : ℕ) → q ≤ k → has set k ≡ false
 
-pub put_more : (f : ℕ → Bool) (n set r : ℕ) (b : Bool) → set ≡ set_of n f → b ≡ f n → r ≡ cond b (bit_or (2 ^ n) set) set → r ≡ set_of (n + 1) f
-unfolding set_of
-put_more f n set r b is e h =
-    h ∙ ap₂ (λ (p : Bool) (s : ℕ). cond p (bit_or (2 ^ n) s) s) e is ∙ ap (λ (k : ℕ). set_of k f) (sym (add-one n))
+module _ (P : ℕ → Bool → Type 0) where
+  pub tried_none : Tried P 0 0
+  tried_none = record { tried = λ k l. absurd (omega arith); left = λ k l. has_none k }
 
-pub put_all : (f : ℕ → Bool) (n k set : ℕ) → set ≡ set_of n f → n ≡ k → set ≡ set_of k f
-put_all f n k set is e = is ∙ ap (λ (j : ℕ). set_of j f) e
+  module _ (q set : ℕ) (inv : Tried P q set) where
+    pub tried_in : P q true → Tried P (q + 1) (bit_or set (2 ^ q))
+    tried_in passes = record {
+      tried = λ k l. at k l (cases_eq k q);
+      left = λ k l. other k (λ e. omega (arith, e)) ∙ inv.left k (omega arith);
+    }
+      where
+        is : (k : ℕ) → has (bit_or set (2 ^ q)) k ≡ (has set k || eqb k q)
+        is k = has-or set (2 ^ q) k ∙ ap (λ (b : Bool). has set k || b) (has_one q k)
+
+        other : (k : ℕ) → (k ≡ q → ⊥) → has (bit_or set (2 ^ q)) k ≡ has set k
+        other k ne = is k ∙ ap (λ (b : Bool). has set k || b) (ne_eqb k q ne) ∙ or-false (has set k)
+
+        here : has (bit_or set (2 ^ q)) q ≡ true
+        here = is q ∙ ap₂ (λ (a b : Bool). a || b) (inv.left q (omega arith)) (eq-eqb q q refl)
+
+        at : (k : ℕ) → k < q + 1 → (k ≡ q) ⊎ (k ≡ q → ⊥) → P k (has (bit_or set (2 ^ q)) k)
+        at k l (inl e) = rw (e, here) passes
+        at k l (inr ne) = rw (other k ne) (inv.tried k (omega (arith, ne)))
+
+    pub tried_out : P q false → Tried P (q + 1) set
+    tried_out fails = record { tried = λ k l. at k l (cases_eq k q); left = λ k l. inv.left k (omega arith) }
+      where
+        at : (k : ℕ) → k < q + 1 → (k ≡ q) ⊎ (k ≡ q → ⊥) → P k (has set k)
+        at k l (inl e) = rw (e, inv.left q (omega arith)) fails
+        at k l (inr ne) = inv.tried k (omega (arith, ne))
+
+-- the set of those that pass
+pub set_is : (n : ℕ) (f : ℕ → Bool) (set : ℕ) → set < 2 ^ n → ((k : ℕ) → k < n → has set k ≡ f k) → set ≡ set_of n f
+set_is n f set small is = same_mask n set (set_of n f) small (set_of_small n f) (λ k l. is k l ∙ sym (has-set_of n f k l))
+
+-- the set of the states that pass
+abbrev pub passing : (State → Bool) → List State → ℕ
+passing f states = set_of (length states) (λ q. f (get_or states q (record { start = false; accepting = false })))
+
+-- the set of the places whose records pass
+module _ (f : State → Bool) (records : List StateRecord) where
+  abbrev rows : List State
+  rows = map (λ s. s.value) records
+
+  abbrev passes : ℕ → Bool
+  passes q = f (get_or rows q (record { start = false; accepting = false }))
+
+  unnamed : StateRecord
+  unnamed = record { value = record { start = false; accepting = false }; name = record { at = 0; len = 0 } }
+
+  long : length rows ≡ length records
+  long = length-map records (λ s. s.value)
+
+  pub places_are : (set : ℕ) → length records ≤ 32 → set < 2 ^ 32 → ((q : ℕ) → q < 32 → MatchOption (slice_get records q) (has set q ≡ false) (λ r. has set q ≡ f r.value))
+      → set ≡ set_of (length rows) passes
+  places_are set few small is = same_mask 32 set all small (omega (arith, few, long, set_of_small (length rows) passes, pow_mono {i = length rows} {j = 32})) (λ k l. place k l (cases_lt k (length rows)))
+    where
+      all : ℕ
+      all = set_of (length rows) passes
+
+      place : (k : ℕ) → k < 32 → (k < length rows) ⊎ (length rows ≤ k) → has set k ≡ has all k
+      place k l (inl low) =
+          let inside : k < length records = omega (arith, long, low) in
+          MatchOption-at_some _ (λ r. has set k ≡ f r.value) (get_or records k unnamed) (slice_get-get_or records k unnamed inside) (is k l)
+          ∙ ap f (sym (get_or-map (λ s. s.value) records k unnamed (record { start = false; accepting = false }) inside)) ∙ sym (has-set_of (length rows) passes k low)
+      place k l (inr past) =
+          MatchOption-at_none (has set k ≡ false) _ (slice_get_past records k (omega (arith, long, past))) (is k l)
+          ∙ sym (has_above (length rows) all k (set_of_small (length rows) passes) past)
 
 -- ---- Bools
-
-or_assoc : (p q r : Bool) → (p || (q || r)) ≡ ((p || q) || r)
-or_assoc true q r = refl
-or_assoc false q r = refl
-
-or_false : (p : Bool) → (p || false) ≡ p
-or_false true = refl
-or_false false = refl
 
 eqb_swap : (a b : ℕ) → eqb a b ≡ eqb b a
 eqb_swap a b = go (cases_eq a b)
@@ -41,120 +103,98 @@ eqb_swap a b = go (cases_eq a b)
     go (inl e) = eq-eqb a b e ∙ sym (eq-eqb b a (sym e))
     go (inr ne) = ne_eqb a b ne ∙ sym (ne_eqb b a (λ e. ne (sym e)))
 
+-- what a test says once one part of it is known
+pub known : (a b c : Bool) → a ≡ b → (a && c) ≡ (b && c)
+known a b c e = ap (λ (x : Bool). x && c) e
+
+-- ---- sets gathered from moves
+
+-- the numbers below w that the test finds for one of the first i moves
+pub record Gathered (w : ℕ) (test : Move → ℕ → Bool) (moves : List Move) (i set : ℕ) : Type 0 where
+  pub small : set < 2 ^ w
+  pub members : (k : ℕ) → k < w → has set k ≡ list_any (λ m. test m k) (take i moves)
+
+module _ (w : ℕ) (test : Move → ℕ → Bool) (moves : List Move) where
+  pub gathered_none : Gathered w test moves 0 0
+  gathered_none = record { small = pow_pos w; members = λ k l. has_none k }
+
+  module _ (i set : ℕ) (d : Move) (l : i < length moves) (inv : Gathered w test moves i set) where
+    pub gathered_more : (new : ℕ) → new < 2 ^ w → ((k : ℕ) → k < w → has new k ≡ test (get_or moves i d) k) → Gathered w test moves (i + 1) (bit_or set new)
+    gathered_more new small are = record {
+      small = or_lt w set new inv.small small;
+      members = λ k h. has-or set new k ∙ ap₂ (λ (a b : Bool). a || b) (inv.members k h) (are k h) ∙ sym (list_any_more (λ m. test m k) moves i d l);
+    }
+
+    pub gathered_same : ((k : ℕ) → k < w → test (get_or moves i d) k ≡ false) → Gathered w test moves (i + 1) set
+    gathered_same fails = record {
+      small = inv.small;
+      members = λ k h.
+          inv.members k h ∙ sym (or-false (list_any (λ m. test m k) (take i moves))) ∙ ap (λ (b : Bool). list_any (λ m. test m k) (take i moves) || b) (sym (fails k h))
+          ∙ sym (list_any_more (λ m. test m k) moves i d l);
+    }
+
+  pub gathered_all : (i set : ℕ) → length moves ≤ i → Gathered w test moves i set → set ≡ set_of w (λ k. list_any (λ m. test m k) moves)
+  gathered_all i set l inv = set_is w _ set inv.small (λ k h. inv.members k h ∙ ap (list_any (λ m. test m k)) (take_all i moves l))
+
 -- ---- edges
 
-leads-push : (xs : List Move) (m : Move) (q r : ℕ) → leads (xs ++ m ∷ []) q r ≡ (leads xs q r || (eqb m.from q && eqb m.to r))
-leads-push [] m q r = or_false (eqb m.from q && eqb m.to r)
-leads-push (x ∷ xs) m q r = ap (λ (b : Bool). (eqb x.from q && eqb x.to r) || b) (leads-push xs m q r) ∙ or_assoc (eqb x.from q && eqb x.to r) (leads xs q r) (eqb m.from q && eqb m.to r)
+-- whether the move goes from q to r
+abbrev pub Leads : ℕ → Move → ℕ → Bool
+Leads q m r = eqb m.from q && eqb m.to r
 
-pub targets_small : (xs : List Move) (q : ℕ) → targets xs q < 2 ^ 32
+pub targets_small : (moves : List Move) (q : ℕ) → targets moves q < 2 ^ 32
 unfolding targets
-targets_small xs q = set_of_small 32 (leads xs q)
+targets_small moves q = set_of_small 32 (leads moves q)
 
-targets-has : (xs : List Move) (q r : ℕ) → r < 32 → has (targets xs q) r ≡ leads xs q r
-unfolding targets
-targets-has xs q r l = has-set_of 32 (leads xs q) r l
-
-targets_none : (q : ℕ) → targets [] q ≡ 0
-targets_none q = same_mask 32 (targets [] q) 0 (targets_small [] q) (pow_pos 32) (λ r l. targets-has [] q r l ∙ sym (has_none r))
-
--- a move from q adds its target
-targets_same : (xs : List Move) (m : Move) (q : ℕ) → m.to < 32 → m.from ≡ q → bit_or (targets xs q) (2 ^ m.to) ≡ targets (xs ++ m ∷ []) q
-targets_same xs m q to e =
-    same_mask 32 (bit_or (targets xs q) (2 ^ m.to)) (targets (xs ++ m ∷ []) q) (or_lt 32 (targets xs q) (2 ^ m.to) (targets_small xs q) (pow_below m.to 32 to)) (targets_small (xs ++ m ∷ []) q)
-    (λ r l. has-or (targets xs q) (2 ^ m.to) r ∙ ap₂ (λ (a b : Bool). a || b) (targets-has xs q r l) (has_one m.to r ∙ eqb_swap r m.to)
-    ∙ ap (λ (b : Bool). leads xs q r || (b && eqb m.to r)) (sym (eq-eqb m.from q e)) ∙ sym (leads-push xs m q r) ∙ sym (targets-has (xs ++ m ∷ []) q r l))
-
--- and any other move adds nothing
-targets_other : (xs : List Move) (m : Move) (q : ℕ) → (m.from ≡ q → ⊥) → targets xs q ≡ targets (xs ++ m ∷ []) q
-targets_other xs m q ne =
-    same_mask 32 (targets xs q) (targets (xs ++ m ∷ []) q) (targets_small xs q) (targets_small (xs ++ m ∷ []) q)
-    (λ r l. targets-has xs q r l ∙ sym (or_false (leads xs q r)) ∙ ap (λ (b : Bool). leads xs q r || (b && eqb m.to r)) (sym (ne_eqb m.from q ne))
-    ∙ sym (leads-push xs m q r) ∙ sym (targets-has (xs ++ m ∷ []) q r l))
-
--- the masks hold the targets of the first moves
-pub record Edges (moves : List Move) (masks : List ℕ) : Type 0 where
+-- the masks hold the targets of the first i moves
+pub record Targets (moves : List Move) (i : ℕ) (masks : List ℕ) : Type 0 where
   pub long : length masks ≡ 32
-  pub are : (q : ℕ) → get_or masks q 0 ≡ targets moves q
+  pub are : (q : ℕ) → Gathered 32 (Leads q) moves i (get_or masks q 0)
 
--- n empty sets
-abbrev zeros : ℕ → List ℕ
-zeros n = replicate n 0
-
-none_at : (n q : ℕ) → ◌≡◌ {A = ℕ} (get_or (zeros n) q 0) 0
+none_at : (n q : ℕ) → ◌≡◌ {A = ℕ} 0 (get_or (replicate n 0) q 0)
 none_at zero q = refl
 none_at (suc n) zero = refl
 none_at (suc n) (suc q) = none_at n q
 
-pub edges_none : Edges [] (zeros 32)
-edges_none = record { long = refl; are = λ q. none_at 32 q ∙ sym (targets_none q) }
+module _ (moves : List Move) where
+  pub targets_first : Targets moves 0 (replicate 32 0)
+  targets_first = record { long = refl; are = λ q. subst (Gathered 32 (Leads q) moves 0) (none_at 32 q) (gathered_none 32 (Leads q) moves) }
 
-pub edges_more : (moves : List Move) (i : ℕ) (m d : Move) (masks new : List ℕ) → i < length moves → m ≡ get_or moves i d → InRange m → Edges (take i moves) masks
-    → new ≡ set masks m.from (bit_or (get_or masks m.from 0) (2 ^ m.to)) → Edges (take (i + 1) moves) new
-edges_more moves i m d masks new l is range inv e = subst (λ (xs : List Move). Edges xs new) (sym more) (record {
-  long = ap length e ∙ length-set masks m.from (bit_or (get_or masks m.from 0) (2 ^ m.to)) ∙ inv.long;
-  are = λ q. ap (λ (xs : List ℕ). get_or xs q 0) e ∙ at q (cases_eq q m.from);
-})
-  where
-    more : take (i + 1) moves ≡ take i moves ++ m ∷ []
-    more = take_more moves i d l ∙ ap (λ (x : Move). take i moves ++ x ∷ []) (sym is)
+  module _ (i : ℕ) (d : Move) (masks : List ℕ) (l : i < length moves) (inv : Targets moves i masks) where
+    abbrev m : Move
+    m = get_or moves i d
 
-    at : (q : ℕ) → (q ≡ m.from) ⊎ (q ≡ m.from → ⊥) → get_or (set masks m.from (bit_or (get_or masks m.from 0) (2 ^ m.to))) q 0 ≡ targets (take i moves ++ m ∷ []) q
-    at q (inl p) =
-        ap (λ (k : ℕ). get_or (set masks m.from (bit_or (get_or masks m.from 0) (2 ^ m.to))) k 0) p
-        ∙ get_or-set_same masks m.from (bit_or (get_or masks m.from 0) (2 ^ m.to)) 0 (omega (arith, inv.long, range.leaves))
-        ∙ ap (λ (k : ℕ). bit_or k (2 ^ m.to)) (inv.are m.from)
-        ∙ targets_same (take i moves) m m.from range.enters refl
-        ∙ ap (targets (take i moves ++ m ∷ [])) (sym p)
-    at q (inr ne) = get_or-set_other masks m.from q (bit_or (get_or masks m.from 0) (2 ^ m.to)) 0 ne ∙ inv.are q ∙ targets_other (take i moves) m q (λ p. ne (sym p))
+    pub targets_more : InRange m → (bit : ℕ) → bit ≡ 2 ^ m.to → Targets moves (i + 1) (set masks m.from (bit_or (get_or masks m.from 0) bit))
+    targets_more range bit is = record { long = length-set masks m.from (bit_or (get_or masks m.from 0) bit) ∙ inv.long; are = λ q. at q (cases_eq q m.from) }
+      where
+        new : List ℕ
+        new = set masks m.from (bit_or (get_or masks m.from 0) bit)
 
-pub edges_all : (moves : List Move) (i : ℕ) (masks : List ℕ) → length moves ≤ i → Edges (take i moves) masks → (q : ℕ) → get_or masks q 0 ≡ targets moves q
-edges_all moves i masks l inv q = inv.are q ∙ ap (λ (xs : List Move). targets xs q) (take_all i moves l)
+        one : (r : ℕ) → has bit r ≡ Leads m.from m r
+        one r = ap (λ (b : ℕ). has b r) is ∙ has_one m.to r ∙ eqb_swap r m.to ∙ sym (known (eqb m.from m.from) true (eqb m.to r) (eq-eqb m.from m.from refl))
+
+        -- a move from q adds its target, and any other move adds nothing
+        at : (q : ℕ) → (q ≡ m.from) ⊎ (q ≡ m.from → ⊥) → Gathered 32 (Leads q) moves (i + 1) (get_or new q 0)
+        at q (inl p) = subst (λ (q : ℕ). Gathered 32 (Leads q) moves (i + 1) (get_or new q 0)) (sym p)
+            (subst (Gathered 32 (Leads m.from) moves (i + 1)) (sym (get_or-set_same masks m.from (bit_or (get_or masks m.from 0) bit) 0 (omega (arith, inv.long, range.leaves))))
+            (gathered_more 32 (Leads m.from) moves i (get_or masks m.from 0) d l (inv.are m.from) bit (subst (λ (b : ℕ). b < 2 ^ 32) (sym is) (pow_below m.to 32 range.enters)) (λ r h. one r)))
+        at q (inr ne) = subst (Gathered 32 (Leads q) moves (i + 1)) (sym (get_or-set_other masks m.from q (bit_or (get_or masks m.from 0) bit) 0 ne))
+            (gathered_same 32 (Leads q) moves i (get_or masks q 0) d l (inv.are q) (λ r h. known (eqb m.from q) false (eqb m.to r) (ne_eqb m.from q (λ p. ne (sym p)))))
+
+  pub targets_all : (i : ℕ) (masks : List ℕ) → length moves ≤ i → Targets moves i masks → (q : ℕ) → get_or masks q 0 ≡ targets moves q
+  unfolding targets
+  targets_all i masks l inv q = gathered_all 32 (Leads q) moves i (get_or masks q 0) l (inv.are q)
 
 -- ---- covered events
 
 -- whether the move goes from q into the set
 abbrev pub Goes : Move → ℕ → ℕ → Bool
-Goes m q states = eqb m.from q && has states m.to
+Goes m q into = eqb m.from q && has into m.to
 
-covered-push : (xs : List Move) (m : Move) (q states e : ℕ) → covered (xs ++ m ∷ []) q states e ≡ (covered xs q states e || (Goes m q states && covers m.cell e))
-covered-push [] m q states e = or_false (Goes m q states && covers m.cell e)
-covered-push (x ∷ xs) m q states e =
-    ap (λ (b : Bool). (Goes x q states && covers x.cell e) || b) (covered-push xs m q states e)
-    ∙ or_assoc (Goes x q states && covers x.cell e) (covered xs q states e) (Goes m q states && covers m.cell e)
+-- and whether its cell covers the event
+abbrev pub Covering : ℕ → ℕ → Move → ℕ → Bool
+Covering q into m e = Goes m q into && covers m.cell e
 
 -- a cell's own test holds
 pub in_cell : (cell events : ℕ) → cell < 729 → ((e : ℕ) → e < 64 → has events e ≡ (ltb cell 729 && covers cell e)) → (e : ℕ) → e < 64 → has events e ≡ covers cell e
 in_cell cell events l h e le = h e le ∙ ap (λ (b : Bool). b && covers cell e) (lt-ltb cell 729 l)
-
--- the events are those that the first moves cover
-abbrev pub Covering : List Move → ℕ → ℕ → ℕ → Type 0
-Covering moves q states events = (events < 2 ^ 64) × ((e : ℕ) → e < 64 → has events e ≡ covered moves q states e)
-
-pub covering_none : (q states : ℕ) → Covering [] q states 0
-covering_none q states = (pow_pos 64, λ e l. has_none e)
-
-module _ (moves : List Move) (i : ℕ) (m d : Move) (q states events : ℕ) (l : i < length moves) (is : m ≡ get_or moves i d) (inv : Covering (take i moves) q states events) where
-  covered_more : (e : ℕ) → covered (take (i + 1) moves) q states e ≡ (covered (take i moves) q states e || (Goes m q states && covers m.cell e))
-  covered_more e =
-      ap (λ (xs : List Move). covered xs q states e) (take_more moves i d l ∙ ap (λ (x : Move). take i moves ++ x ∷ []) (sym is))
-      ∙ covered-push (take i moves) m q states e
-
-  pub covering_add : (more : ℕ) → more < 2 ^ 64 → Goes m q states ≡ true → ((e : ℕ) → e < 64 → has more e ≡ covers m.cell e) → Covering (take (i + 1) moves) q states (bit_or events more)
-  covering_add more small goes covers-are = (
-    or_lt 64 events more inv.0 small,
-    λ e le. has-or events more e ∙ ap₂ (λ (a b : Bool). a || b) (inv.1 e le) (covers-are e le ∙ sym (ap (λ (b : Bool). b && covers m.cell e) goes)) ∙ sym (covered_more e),
-  )
-
-  pub covering_skip : Goes m q states ≡ false → Covering (take (i + 1) moves) q states events
-  covering_skip goes = (
-    inv.0,
-    λ e le. inv.1 e le ∙ sym (or_false (covered (take i moves) q states e))
-        ∙ ap (λ (b : Bool). covered (take i moves) q states e || (b && covers m.cell e)) (sym goes) ∙ sym (covered_more e),
-  )
-
-pub covering_all : (moves : List Move) (i q states events : ℕ) → length moves ≤ i → Covering (take i moves) q states events → events ≡ covered_into moves q states
-unfolding covered_into
-covering_all moves i q states events l inv =
-    same_mask 64 events (set_of 64 (covered moves q states)) inv.0 (set_of_small 64 (covered moves q states))
-    (λ e le. inv.1 e le ∙ ap (λ (xs : List Move). covered xs q states e) (take_all i moves l) ∙ sym (has-set_of 64 (covered moves q states) e le))

@@ -1,5 +1,5 @@
 -- Rounds of a step: what a step keeps, the rounds keep; and a set of states that only grows, or only shrinks, has settled after 32 rounds.
-use Rattle.std.proofs.Common.{◌≡◌, ℕ, zero, suc, ◌-◌, ◌^◌, ◌<◌, ◌≤◌, ◌⊎◌, sym, refl, ap, ◌∙◌, subst, inl, inr, arith}
+use Rattle.std.proofs.Common.{◌≡◌, ℕ, zero, suc, ◌+◌, ◌-◌, ◌^◌, ◌<◌, ◌≤◌, ◌⊎◌, sym, refl, ap, ◌∙◌, subst, inl, inr, add-zero, add-suc, arith}
 use lib.Count.{ones, ones-le}
 use Rattle.std.proofs.lemmas.Bool.{cases_eq}
 use Rattle.events.specs.Sets.{Subset}
@@ -22,6 +22,31 @@ Grows step = (set : ℕ) → Small set → Subset set (step set)
 abbrev pub Shrinks : (ℕ → ℕ) → Type 0
 Shrinks step = (set : ℕ) → Small set → Subset (step set) set
 
+-- the step computes the function
+abbrev pub Computes : (ℕ → ℕ → Type 0) → (ℕ → ℕ) → Type 0
+Computes P g = (set next : ℕ) → set < 2 ^ 32 → P set next → next ≡ g set
+
+-- the set is what n rounds of any such function leave of the seed
+pub record Rounds (P : ℕ → ℕ → Type 0) (n seed set : ℕ) : Type 0 where
+  pub small : set < 2 ^ 32
+  pub ran : (g : ℕ → ℕ) → Computes P g → set ≡ rounds n g seed
+
+-- a round that changes nothing is the last
+rounds_still : (g : ℕ → ℕ) (seed set n k : ℕ) → set ≡ rounds n g seed → g set ≡ set → set ≡ rounds (n + k) g seed
+rounds_still g seed set n zero ran still = rw add-zero ran
+rounds_still g seed set n (suc k) ran still = rw add-suc (sym still ∙ ap g (rounds_still g seed set n k ran still))
+
+module _ (P : ℕ → ℕ → Type 0) (n seed set : ℕ) (inv : Rounds P n seed set) where
+  pub rounds_done : (next : ℕ) → P set next → next ≡ set → n < 32 → (g : ℕ → ℕ) → Computes P g → set ≡ settled g seed
+  unfolding settled
+  rounds_done next gave same l g is =
+      let all : n + (32 - n) ≡ 32 = omega arith in
+      rounds_still g seed set n (32 - n) (inv.ran g is) (sym (is set next inv.small gave) ∙ same) ∙ ap (λ (k : ℕ). rounds k g seed) all
+
+  pub rounds_all : 32 ≤ n → n ≤ 32 → (g : ℕ → ℕ) → Computes P g → set ≡ settled g seed
+  unfolding settled
+  rounds_all up low g is = let all : n ≡ 32 = omega arith in inv.ran g is ∙ ap (λ (k : ℕ). rounds k g seed) all
+
 module _ (step : ℕ → ℕ) where
   rounds_iter : (n set : ℕ) → rounds n step set ≡ iter n step set
   rounds_iter zero set = refl
@@ -31,23 +56,10 @@ module _ (step : ℕ → ℕ) where
   rounds_keep P keeps zero set h = h
   rounds_keep P keeps (suc n) set h = keeps (rounds n step set) (rounds_keep P keeps n set h)
 
-  rounds_swap : (n set : ℕ) → rounds n step (step set) ≡ step (rounds n step set)
-  rounds_swap zero set = refl
-  rounds_swap (suc n) set = ap step (rounds_swap n set)
-
-  rounds_done : (n set : ℕ) → step set ≡ set → rounds n step set ≡ set
-  rounds_done zero set e = refl
-  rounds_done (suc n) set e = ap step (rounds_done n set e) ∙ e
-
   -- what holds of a set, and is kept by each step, holds of the settled set
   pub settled_keep : (P : ℕ → Type 0) → ((set : ℕ) → P set → P (step set)) → (set : ℕ) → P set → P (settled step set)
   unfolding settled
   settled_keep P keeps set h = rounds_keep P keeps 32 set h
-
-  -- a set that a step leaves as it is, is settled
-  pub settled_done : (set : ℕ) → step set ≡ set → settled step set ≡ set
-  unfolding settled
-  settled_done set e = rounds_done 32 set e
 
   -- a step that moves a number up to 32, or does nothing, has settled
   settled_by_lem : (size : ℕ → ℕ) → Keeps step → ((set : ℕ) → Small set → (step set ≡ set → ⊥) → size set < size (step set)) → ((set : ℕ) → Small set → size set ≤ 32)
@@ -69,8 +81,3 @@ module _ (step : ℕ → ℕ) where
       settled_by_lem (λ y. 32 - ones y) keeps
       (λ y ok ne. omega (arith, grown 32 (step y) y (keeps y ok) ok (shrinks y ok) ne, ones-le 32 y ok))
       (λ y ok. omega arith) set small
-
-  -- one round on the way changes nothing, once the set settles
-  pub settled-next : (set : ℕ) → step (settled step set) ≡ settled step set → settled step (step set) ≡ settled step set
-  unfolding settled
-  settled-next set e = rounds_swap 32 set ∙ e

@@ -1,12 +1,12 @@
 -- The states that are left of the live ones are the safe states, and the lowest of them is the release state.
-use Rattle.std.proofs.Common.{◌≡◌, ℕ, ◌-◌, ◌^◌, ◌<◌, ◌≤◌, Bool, true, ◌&&◌, T, eqb, ◌⊎◌, ◌↔◌, List, [], ◌∷◌, length, sym, refl, ◌∙◌, subst, inl, inr, eq-zero-or-pos, lit<, eqb→eq}
-use lib.Count.{ones, count_trailing_zeros}
+use Rattle.std.proofs.Common.{◌≡◌, ℕ, ◌-◌, ◌^◌, ◌<◌, ◌≤◌, Bool, true, ◌&&◌, T, eqb, ◌⊎◌, ◌↔◌, List, [], ◌∷◌, length, sym, refl, subst, inl, inr, eq-zero-or-pos, lit<, eqb→eq}
+use lib.Count.{count_trailing_zeros}
 use Rattle.std.proofs.lemmas.Bool.{eq-eqb}
 use Rattle.events.specs.Sets.{has, ◌∈◌, Subset, set_of}
 use Rattle.events.specs.Cells.{Covers, covers}
 use Rattle.events.proofs.CellLaws.{covers_is}
 use Rattle.events.proofs.LowestLaws.{low_member, low_least}
-use Rattle.events.proofs.SetLaws.{true_T, false_T, TOr, T_and, ∈-set_of, set_of_small, ∈_below, ∈_every, ∈_none, same_members, no_member, grown, below_width}
+use Rattle.events.proofs.SetLaws.{true_T, false_T, TOr, T_and, ∈-set_of, set_of_small, ∈_below, ∈_every, ∈_none, same_members, no_member, below_width}
 use Rattle.rules.specs.declared.Move.{Move}
 use Rattle.rules.specs.automata.Rules.{Rule, Any, WellFormed}
 use Rattle.rules.specs.automata.Runs.{Safe}
@@ -16,7 +16,7 @@ use Rattle.rules.proofs.automata.PruningLaws.{selected_pruned}
 use Rattle.rules.proofs.automata.RuleLaws.{past_dead}
 use Rattle.rules.proofs.automata.RunLaws.{safe_live, safe_below}
 use Rattle.pruning.specs.Computed.{covered, covered_into, kept, safe_in, live_states, safe_states, lowest_safe, pruned_set}
-use Rattle.pruning.proofs.RoundLaws.{Keeps, Shrinks, settled_keep, settled_done, settled-next, shrunk_settled}
+use Rattle.pruning.proofs.RoundLaws.{Keeps, Shrinks, settled_keep, shrunk_settled}
 use Rattle.pruning.proofs.LoopLaws.{Goes}
 use Rattle.pruning.proofs.LiveLaws.{live_right, live_small}
 
@@ -96,22 +96,9 @@ module _ (moves : List Move) where
   shrinks : Shrinks (kept moves)
   shrinks set small q h = ((kept_is moves set q).0 h).1
 
-  -- the loop: a round that changes the set removes a member, and the settled set stays the same
-  pub kept_less : (set next : ℕ) → set < 2 ^ 32 → next ≡ kept moves set → (next ≡ set → ⊥) → ones next < ones set
-  kept_less set next small is ne =
-      subst (λ (n : ℕ). ones n < ones set) (sym is) (grown 32 (kept moves set) set (kept_small set) small (shrinks set small) (λ e. ne (is ∙ e)))
-
   pub safe_fixed : (set : ℕ) → set < 2 ^ 32 → kept moves (safe_in moves set) ≡ safe_in moves set
   unfolding safe_in
   safe_fixed set small = shrunk_settled (kept moves) keeps shrinks set small
-
-  pub safe_next : (set : ℕ) → set < 2 ^ 32 → safe_in moves (kept moves set) ≡ safe_in moves set
-  unfolding safe_in
-  safe_next set small = settled-next (kept moves) set (shrunk_settled (kept moves) keeps shrinks set small)
-
-  pub safe_done : (set : ℕ) → kept moves set ≡ set → safe_in moves set ≡ set
-  unfolding safe_in
-  safe_done set e = settled_done (kept moves) set e
 
   pub safe_keep : (P : ℕ → Type 0) → ((set : ℕ) → P set → P (kept moves set)) → (set : ℕ) → P set → P (safe_in moves set)
   unfolding safe_in

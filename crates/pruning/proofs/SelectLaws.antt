@@ -1,127 +1,50 @@
 -- What an event selects from the moves so far, one move at a time.
-use Rattle.std.proofs.Common.{◌≡◌, ℕ, zero, suc, ◌+◌, ◌^◌, ◌<◌, ◌≤◌, Bool, true, false, cond, ◌&&◌, ◌||◌, T, eqb, ◌⊎◌, List, [], ◌∷◌, ◌++◌, length, get_or, take, sym, refl, ap, ◌∙◌, subst, ap₂, inl, inr, pow-suc, arith, lit<}
-use lib.Bits.{bit_or, or_lt, or_zero_l, or_zero_r}
+use Rattle.std.proofs.Common.{◌≡◌, ℕ, ◌+◌, ◌^◌, ◌<◌, ◌≤◌, Bool, true, false, cond, ◌&&◌, ◌||◌, T, eqb, ◌⊎◌, List, [], ◌∷◌, length, get_or, Some, None, Option, sym, refl, ap, ◌∙◌, subst, ap₂, inl, inr, arith}
+use lib.Bits.{bit_or, or_zero_r}
 use lib.Count.{count_trailing_zeros}
-use Rattle.std.proofs.lemmas.List.{take_more, take_all}
-use Rattle.std.proofs.lemmas.Bool.{cases_lt}
+use Rattle.std.specs.List.{AllByRecursion, list_any}
+use Rattle.std.specs.Option.{option_eq}
+use Rattle.std.proofs.lemmas.List.{take_all}
+use Rattle.std.proofs.lemmas.Nat.{pow_below}
+use Rattle.std.proofs.lemmas.Bool.{cases_lt, eqb-true, eqb-false, ne_eqb}
 use Rattle.events.specs.Cells.{covers}
 use Rattle.events.specs.Sets.{has}
 use Rattle.events.proofs.CellLaws.{covers_all, covers_is}
-use Rattle.events.proofs.LowestLaws.{low_least}
-use Rattle.events.proofs.SetLaws.{T_true, has-or, same_mask, below_width}
+use Rattle.events.proofs.LowestLaws.{low_least, low_none}
+use Rattle.events.proofs.SetLaws.{T_true, has-or, has_one, has_none, same_mask}
 use Rattle.rules.specs.declared.Move.{Move}
 use Rattle.rules.specs.automata.Rules.{Rule}
 use Rattle.rules.specs.automata.Pruning.{Guarded, selected, kept_moves}
-use Rattle.pruning.specs.Computed.{selected_kept, live_states, safe_states, pruned_set}
+use Rattle.rules.proofs.automata.PruningLaws.{selected_small}
+use Rattle.pruning.proofs.LoopLaws.{Gathered, gathered_more, gathered_same, Goes, Covering, known}
+use Rattle.pruning.specs.Computed.{Ranged, selected_kept, live_states, safe_states, pruned_set}
 
--- ---- unions
+-- ---- the lowest member, if any
 
-below_pow : (n : ℕ) → n < 2 ^ n
-below_pow zero = lit< tt
-below_pow (suc n) = rw pow-suc (omega (arith, below_pow n))
+abbrev first_of : ℕ → Bool → Option ℕ
+first_of set none = cond none None (Some (count_trailing_zeros 32 set))
 
-or-or : (p q r : Bool) → ((p || q) || r) ≡ (p || (q || r))
-or-or true q r = refl
-or-or false q r = refl
-
-union_assoc : (a b c : ℕ) → bit_or (bit_or a b) c ≡ bit_or a (bit_or b c)
-union_assoc a b c =
-    let wide = below_pow (a + b + c) in
-    let wa : a < 2 ^ (a + b + c) = omega arith in
-    let wb : b < 2 ^ (a + b + c) = omega arith in
-    let wc : c < 2 ^ (a + b + c) = omega arith in
-    same_mask (a + b + c) (bit_or (bit_or a b) c) (bit_or a (bit_or b c)) (or_lt _ (bit_or a b) c (or_lt _ a b wa wb) wc) (or_lt _ a (bit_or b c) wa (or_lt _ b c wb wc))
-    (λ k l. has-or (bit_or a b) c k ∙ ap (λ (p : Bool). p || has c k) (has-or a b k) ∙ or-or (has a k) (has b k) (has c k)
-    ∙ ap (λ (p : Bool). has a k || p) (sym (has-or b c k)) ∙ sym (has-or a (bit_or b c) k))
-
-selected-++ : (gs hs : List Guarded) (e : ℕ) → selected (gs ++ hs) e ≡ bit_or (selected gs e) (selected hs e)
-selected-++ [] hs e = sym (or_zero_l (selected hs e))
-selected-++ (g ∷ gs) hs e = go (covers g.cell e) (selected-++ gs hs e)
+pub first_none : (set q : ℕ) (r : Option ℕ) → r ≡ first_of set (eqb set 0) → r ≡ None → has set q ≡ false
+first_none set q r is none = go (eqb set 0) refl (sym is ∙ none)
   where
-    go : (b : Bool) → selected (gs ++ hs) e ≡ bit_or (selected gs e) (selected hs e)
-        → cond b (bit_or (2 ^ g.state) (selected (gs ++ hs) e)) (selected (gs ++ hs) e) ≡ bit_or (cond b (bit_or (2 ^ g.state) (selected gs e)) (selected gs e)) (selected hs e)
-    go true ih = ap (bit_or (2 ^ g.state)) ih ∙ sym (union_assoc (2 ^ g.state) (selected gs e) (selected hs e))
-    go false ih = ih
+    go : (b : Bool) → eqb set 0 ≡ b → first_of set b ≡ None → has set q ≡ false
+    go true e h = ap (λ (s : ℕ). has s q) (eqb-true set 0 e) ∙ has_none q
+    go false e h = cc
 
-module _ (live safe release q : ℕ) where
-  kept-++ : (xs ys : List Move) → kept_moves live safe release q (xs ++ ys) ≡ kept_moves live safe release q xs ++ kept_moves live safe release q ys
-  kept-++ [] ys = refl
-  kept-++ (m ∷ xs) ys = go (eqb m.from q && has live m.to) (kept-++ xs ys)
-    where
-      go : (b : Bool) → kept_moves live safe release q (xs ++ ys) ≡ kept_moves live safe release q xs ++ kept_moves live safe release q ys
-          → cond b (record { cell = m.cell; state = cond (has safe m.to) release m.to } ∷ kept_moves live safe release q (xs ++ ys)) (kept_moves live safe release q (xs ++ ys))
-          ≡ cond b (record { cell = m.cell; state = cond (has safe m.to) release m.to } ∷ kept_moves live safe release q xs) (kept_moves live safe release q xs) ++ kept_moves live safe release q ys
-      go true ih = ap (λ gs. record { cell = m.cell; state = cond (has safe m.to) release m.to } ∷ gs) ih
-      go false ih = ih
-
-  -- ---- the moves so far
-
-  pub selected_none : (e : ℕ) → 0 ≡ selected_kept [] live safe release q e
-  unfolding selected_kept
-  selected_none e = refl
-
-  module _ (moves : List Move) (i : ℕ) (m d : Move) (e set : ℕ) (l : i < length moves) (is : m ≡ get_or moves i d) (inv : set ≡ selected_kept (take i moves) live safe release q e) where
-    last : (b : Bool) → eqb m.from q && has live m.to ≡ b → selected (kept_moves live safe release q (m ∷ [])) e ≡ cond b (cond (covers m.cell e) (bit_or (2 ^ (cond (has safe m.to) release m.to)) 0) 0) 0
-    last true p = ap (λ (b : Bool). selected (cond b (record { cell = m.cell; state = cond (has safe m.to) release m.to } ∷ []) []) e) p
-    last false p = ap (λ (b : Bool). selected (cond b (record { cell = m.cell; state = cond (has safe m.to) release m.to } ∷ []) []) e) p
-
-    more : selected_kept (take (i + 1) moves) live safe release q e ≡ bit_or set (selected (kept_moves live safe release q (m ∷ [])) e)
-    unfolding selected_kept
-    more =
-        ap (λ (xs : List Move). selected (kept_moves live safe release q xs) e) (take_more moves i d l ∙ ap (λ (x : Move). take i moves ++ x ∷ []) (sym is))
-        ∙ ap (λ gs. selected gs e) (kept-++ (take i moves) (m ∷ []))
-        ∙ selected-++ (kept_moves live safe release q (take i moves)) (kept_moves live safe release q (m ∷ [])) e
-        ∙ ap (λ (s : ℕ). bit_or s (selected (kept_moves live safe release q (m ∷ [])) e)) (sym inv)
-
-    pub selected_add : (eqb m.from q && has live m.to) && covers m.cell e ≡ true → (new : ℕ) → new ≡ 2 ^ (cond (has safe m.to) release m.to)
-        → bit_or set new ≡ selected_kept (take (i + 1) moves) live safe release q e
-    selected_add both new is-new = go (eqb m.from q && has live m.to) refl (covers m.cell e) refl both
-      where
-        go : (a : Bool) → eqb m.from q && has live m.to ≡ a → (b : Bool) → covers m.cell e ≡ b → a && b ≡ true → bit_or set new ≡ selected_kept (take (i + 1) moves) live safe release q e
-        go true p true p' t =
-            ap (bit_or set) (is-new ∙ sym (or_zero_r (2 ^ (cond (has safe m.to) release m.to))))
-            ∙ ap (bit_or set) (sym (last true p ∙ ap (λ (b : Bool). cond b (bit_or (2 ^ (cond (has safe m.to) release m.to)) 0) 0) p')) ∙ sym more
-        go true p false p' t = absurd (subst T (sym t) tt)
-        go false p b p' t = absurd (subst T (sym t) tt)
-
-    pub selected_skip : (eqb m.from q && has live m.to) && covers m.cell e ≡ false → set ≡ selected_kept (take (i + 1) moves) live safe release q e
-    selected_skip both = go (eqb m.from q && has live m.to) refl (covers m.cell e) refl both
-      where
-        none : selected (kept_moves live safe release q (m ∷ [])) e ≡ 0 → set ≡ selected_kept (take (i + 1) moves) live safe release q e
-        none z = sym (more ∙ ap (bit_or set) z ∙ or_zero_r set)
-
-        go : (a : Bool) → eqb m.from q && has live m.to ≡ a → (b : Bool) → covers m.cell e ≡ b → a && b ≡ false → set ≡ selected_kept (take (i + 1) moves) live safe release q e
-        go true p true p' t = absurd (subst T t tt)
-        go true p false p' t = none (last true p ∙ ap (λ (b : Bool). cond b (bit_or (2 ^ (cond (has safe m.to) release m.to)) 0) 0) p')
-        go false p b p' t = none (last false p)
-
-    -- the same of a move that is kept, for an event that it may cover or not, and of one that is not kept
-    pub gathered_add : eqb m.from q && has live m.to ≡ true → (new : ℕ) → new ≡ 2 ^ (cond (has safe m.to) release m.to)
-        → (r : ℕ) → r ≡ cond (covers m.cell e) (bit_or set new) set → r ≡ selected_kept (take (i + 1) moves) live safe release q e
-    gathered_add kept new is-new r is-r = is-r ∙ go (covers m.cell e) refl
-      where
-        go : (b : Bool) → covers m.cell e ≡ b → cond b (bit_or set new) set ≡ selected_kept (take (i + 1) moves) live safe release q e
-        go true p = selected_add (ap₂ (λ (a b : Bool). a && b) kept p) new is-new
-        go false p = selected_skip (ap₂ (λ (a b : Bool). a && b) kept p)
-
-    pub gathered_skip : eqb m.from q && has live m.to ≡ false → set ≡ selected_kept (take (i + 1) moves) live safe release q e
-    gathered_skip other = selected_skip (ap (λ (b : Bool). b && covers m.cell e) other)
-
-  pub selected_all : (moves : List Move) (i e set : ℕ) → length moves ≤ i → set ≡ selected_kept (take i moves) live safe release q e → set ≡ selected_kept moves live safe release q e
-  selected_all moves i e set l inv = inv ∙ ap (λ (xs : List Move). selected_kept xs live safe release q e) (take_all i moves l)
+pub first_other : (set q : ℕ) (r : Option ℕ) → q < 32 → r ≡ first_of set (eqb set 0) → option_eq eqb r (Some q) ≡ false → 0 ≡ cond (eqb q (count_trailing_zeros 32 set)) (2 ^ q) 0
+first_other set q r l is other = sym (ap (λ (b : Bool). cond b (2 ^ q) 0) (ne_eqb q (count_trailing_zeros 32 set) (differs (eqb set 0) refl (ap (λ o. option_eq eqb o (Some q)) (sym is) ∙ other))))
+  where
+    differs : (b : Bool) → eqb set 0 ≡ b → option_eq eqb (first_of set b) (Some q) ≡ false → q ≡ count_trailing_zeros 32 set → ⊥
+    differs true e h same =
+        let top : count_trailing_zeros 32 set ≡ 32 = ap (count_trailing_zeros 32) (eqb-true set 0 e) ∙ low_none 32 in
+        omega (arith, same, top, l)
+    differs false e h same = eqb-false (count_trailing_zeros 32 set) q h (sym same)
 
 -- ---- what a live target stands for is a state
 
--- what a target stands for, by the lowest safe state
-pub stands : (safe release to r : ℕ) → r ≡ cond (has safe to) release to → release ≡ count_trailing_zeros 32 safe → r ≡ cond (has safe to) (count_trailing_zeros 32 safe) to
-stands safe release to r is low = is ∙ ap (λ (n : ℕ). cond (has safe to) n to) low
-
-pub stand_below : (live safe to : ℕ) → live < 2 ^ 32 → has live to ≡ true → cond (has safe to) (count_trailing_zeros 32 safe) to < 32
-stand_below live safe to small h = go (has safe to) refl
+pub stand_below : (safe to : ℕ) → to < 32 → cond (has safe to) (count_trailing_zeros 32 safe) to < 32
+stand_below safe to low = go (has safe to) refl
   where
-    low : to < 32
-    low = below_width 32 live to small h
-
     go : (b : Bool) → has safe to ≡ b → cond b (count_trailing_zeros 32 safe) to < 32
     go false p = low
     go true p = at (cases_lt to (count_trailing_zeros 32 safe))
@@ -129,6 +52,76 @@ stand_below live safe to small h = go (has safe to) refl
         at : (to < count_trailing_zeros 32 safe) ⊎ (count_trailing_zeros 32 safe ≤ to) → count_trailing_zeros 32 safe < 32
         at (inl l) = absurd (subst T (sym p ∙ low_least 32 safe to l) tt)
         at (inr l) = omega (arith, low)
+
+-- and its set has it alone
+pub target_is : (safe to stands r : ℕ) → to < 32 → stands ≡ cond (has safe to) (count_trailing_zeros 32 safe) to → (stands < 32 → r ≡ 2 ^ stands)
+    → r ≡ 2 ^ cond (has safe to) (count_trailing_zeros 32 safe) to
+target_is safe to stands r low is one = one (subst (λ (n : ℕ). n < 32) (sym is) (stand_below safe to low)) ∙ ap (λ (n : ℕ). 2 ^ n) is
+
+-- ---- the moves so far
+
+module _ (live safe q : ℕ) where
+  -- what the target of a move stands for
+  abbrev target : Move → ℕ
+  target m = cond (has safe m.to) (count_trailing_zeros 32 safe) m.to
+
+  -- whether an event selects the state t from a move
+  abbrev pub Selects : ℕ → Move → ℕ → Bool
+  Selects e m t = Covering q live m e && eqb t (target m)
+
+  abbrev kept : List Move → List Guarded
+  kept moves = kept_moves live safe (count_trailing_zeros 32 safe) q moves
+
+  selected-has : (moves : List Move) (e t : ℕ) → has (selected (kept moves) e) t ≡ list_any (λ m. Selects e m t) moves
+  selected-has [] e t = has_none t
+  selected-has (m ∷ moves) e t = go (Goes m q live) (selected-has moves e t)
+    where
+      on : (b : Bool) → has (selected (kept moves) e) t ≡ list_any (λ m. Selects e m t) moves
+          → has (cond b (bit_or (2 ^ target m) (selected (kept moves) e)) (selected (kept moves) e)) t ≡ ((b && eqb t (target m)) || list_any (λ m. Selects e m t) moves)
+      on true ih = has-or (2 ^ target m) (selected (kept moves) e) t ∙ ap₂ (λ (a b : Bool). a || b) (has_one (target m) t) ih
+      on false ih = ih
+
+      go : (b : Bool) → has (selected (kept moves) e) t ≡ list_any (λ m. Selects e m t) moves
+          → has (selected (cond b (record { cell = m.cell; state = target m } ∷ kept moves) (kept moves)) e) t ≡ (((b && covers m.cell e) && eqb t (target m)) || list_any (λ m. Selects e m t) moves)
+      go true ih = on (covers m.cell e) ih
+      go false ih = ih
+
+  kept_below : (moves : List Move) → Ranged moves → AllByRecursion (λ g. g.state < 32) (kept moves)
+  kept_below [] h = tt
+  kept_below (m ∷ moves) h = go (Goes m q live) (kept_below moves h.1)
+    where
+      go : (b : Bool) → AllByRecursion (λ g. g.state < 32) (kept moves) → AllByRecursion (λ g. g.state < 32) (cond b (record { cell = m.cell; state = target m } ∷ kept moves) (kept moves))
+      go true ih = (stand_below safe m.to h.0.enters, ih)
+      go false ih = ih
+
+  module _ (moves : List Move) (e i set : ℕ) where
+    -- a move that is kept, on a cell that covers the event, adds what its target stands for
+    pub selected_more : (d : Move) → i < length moves → Gathered 32 (Selects e) moves i set → (new : ℕ) → (get_or moves i d).to < 32 → new ≡ 2 ^ target (get_or moves i d)
+        → Covering q live (get_or moves i d) e ≡ true → Gathered 32 (Selects e) moves (i + 1) (bit_or set new)
+    selected_more d l inv new low is on = gathered_more 32 (Selects e) moves i set d l inv new
+        (subst (λ (n : ℕ). n < 2 ^ 32) (sym is) (pow_below (target (get_or moves i d)) 32 (stand_below safe (get_or moves i d).to low)))
+        (λ t h. ap (λ (n : ℕ). has n t) is ∙ has_one (target (get_or moves i d)) t ∙ sym (known (Covering q live (get_or moves i d) e) true (eqb t (target (get_or moves i d))) on))
+
+    -- and any other move adds nothing
+    pub selected_same : (d : Move) → i < length moves → Gathered 32 (Selects e) moves i set → Covering q live (get_or moves i d) e ≡ false → Gathered 32 (Selects e) moves (i + 1) set
+    selected_same d l inv off = gathered_same 32 (Selects e) moves i set d l inv (λ t h. known (Covering q live (get_or moves i d) e) false (eqb t (target (get_or moves i d))) off)
+
+    -- the same of a move that is kept, whether its cell covers the event or not
+    pub selected_by : (d : Move) → i < length moves → Gathered 32 (Selects e) moves i set → (new : ℕ) → (get_or moves i d).to < 32 → new ≡ 2 ^ target (get_or moves i d)
+        → Goes (get_or moves i d) q live ≡ true → (r : ℕ) → r ≡ cond (covers (get_or moves i d).cell e) (bit_or set new) set → Gathered 32 (Selects e) moves (i + 1) r
+    selected_by d l inv new low is goes r is-r = subst (Gathered 32 (Selects e) moves (i + 1)) (sym is-r) (go (covers (get_or moves i d).cell e) refl)
+      where
+        both : (b : Bool) → covers (get_or moves i d).cell e ≡ b → Covering q live (get_or moves i d) e ≡ b
+        both b p = ap₂ (λ (x y : Bool). x && y) goes p
+
+        go : (b : Bool) → covers (get_or moves i d).cell e ≡ b → Gathered 32 (Selects e) moves (i + 1) (cond b (bit_or set new) set)
+        go true p = selected_more d l inv new low is (both true p)
+        go false p = selected_same d l inv (both false p)
+
+    pub selected_all : Ranged moves → length moves ≤ i → Gathered 32 (Selects e) moves i set → set ≡ selected_kept moves live safe (count_trailing_zeros 32 safe) q e
+    unfolding selected_kept
+    selected_all ranged l inv = same_mask 32 set (selected (kept moves) e) inv.small (selected_small (kept moves) e 32 (kept_below moves ranged))
+        (λ t h. inv.members t h ∙ ap (list_any (λ m. Selects e m t)) (take_all i moves l) ∙ sym (selected-has moves e t))
 
 -- ---- the pruned set of a safe, a live and a dead state
 
@@ -157,10 +150,9 @@ pruned_safe rule safe q e r es hs is = is ∙ go (eqb q (count_trailing_zeros 32
     go false = refl
 
 pub pruned_live : (rule : Rule) (live safe q e r : ℕ) → live ≡ live_states rule → safe ≡ safe_states rule → has safe q ≡ false → has live q ≡ true
-    → (moves : List Move) → moves ≡ rule.moves → r ≡ selected_kept moves live safe (count_trailing_zeros 32 safe) q e → r ≡ pruned_set rule q e
+    → r ≡ selected_kept rule.moves live safe (count_trailing_zeros 32 safe) q e → r ≡ pruned_set rule q e
 unfolding selected_kept
-pruned_live rule live safe q e r el es hs hl moves em is =
-    is ∙ ap (λ (xs : List Move). selected (kept_moves live safe (count_trailing_zeros 32 safe) q xs) e) em ∙ sym (pruned_by rule live safe q e false true el es hs hl)
+pruned_live rule live safe q e r el es hs hl is = is ∙ sym (pruned_by rule live safe q e false true el es hs hl)
 
 pub pruned_dead : (rule : Rule) (live safe q e : ℕ) → live ≡ live_states rule → safe ≡ safe_states rule → has safe q ≡ false → has live q ≡ false → 0 ≡ pruned_set rule q e
 pruned_dead rule live safe q e el es hs hl = sym (pruned_by rule live safe q e false false el es hs hl)

@@ -1,8 +1,8 @@
 -- How the live and the safe states, the release state and the pruned sets are computed from the moves. That they are what their names say is
 -- promised by the calls, in the words of the crate `rules`.
-use Rattle.std.specs.Prelude.{ℕ, zero, suc, ◌-◌, ◌^◌, ◌<◌, Bool, false, not, ◌&&◌, ◌||◌, List, [], ◌∷◌, length, ◌==◌, bit_and, slice_index, slice_index_or}
+use Rattle.std.specs.Prelude.{ℕ, zero, suc, ◌-◌, ◌^◌, ◌<◌, Bool, false, not, ◌&&◌, ◌||◌, List, length, ◌==◌, bit_and, slice_index, slice_index_or}
 use Rattle.std.specs.Int.Count.{count_trailing_zeros}
-use Rattle.std.specs.List.{AllByRecursion}
+use Rattle.std.specs.List.{AllByRecursion, list_any}
 use Rattle.events.specs.Sets.{has, set_of}
 use Rattle.events.specs.Cells.{covers}
 use Rattle.rules.specs.declared.Move.{Move}
@@ -26,6 +26,10 @@ Ranged moves = AllByRecursion InRange moves
 abbrev pub meets : ℕ → ℕ → Bool
 meets a b = not (bit_and a b == 0)
 
+-- the lowest member of a set of states, or 32 where it has none
+abbrev pub lowest_member : ℕ → ℕ
+lowest_member set = count_trailing_zeros 32 set
+
 -- a set after n rounds of a step
 abbrev pub rounds : ℕ → (ℕ → ℕ) → ℕ → ℕ
 rounds zero step set = set
@@ -43,8 +47,7 @@ entry masks q = slice_index masks q
 
 -- whether some move goes from q to r
 abbrev pub leads : List Move → ℕ → ℕ → Bool
-leads [] q r = false
-leads (m ∷ moves) q r = (m.from == q && m.to == r) || leads moves q r
+leads moves q r = list_any (λ m. m.from == q && m.to == r) moves
 
 -- the states that the moves of q lead to
 unfoldable pub targets : List Move → ℕ → ℕ
@@ -78,8 +81,7 @@ live_states rule = live_in (targets rule.moves) (accepting rule.states)
 
 -- whether some move from q into the set covers the event
 abbrev pub covered : List Move → ℕ → ℕ → ℕ → Bool
-covered [] q set e = false
-covered (m ∷ moves) q set e = ((m.from == q && has set m.to) && covers m.cell e) || covered moves q set e
+covered moves q set e = list_any (λ m. (m.from == q && has set m.to) && covers m.cell e) moves
 
 -- the events that moves from q into the set cover
 unfoldable pub covered_into : List Move → ℕ → ℕ → ℕ
@@ -101,7 +103,7 @@ safe_states rule = safe_in rule.moves (live_states rule)
 
 -- the lowest safe state, or 32 where there is none
 abbrev pub lowest_safe : Rule → ℕ
-lowest_safe rule = count_trailing_zeros 32 (safe_states rule)
+lowest_safe rule = lowest_member (safe_states rule)
 
 -- the states that an event selects from the moves of q that are kept
 unfoldable pub selected_kept : List Move → ℕ → ℕ → ℕ → ℕ → ℕ → ℕ

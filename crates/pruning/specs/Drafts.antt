@@ -9,8 +9,8 @@ use Rattle.rulefile.specs.Draft.{draft_rule}
 -- the rule of a draft: what its file holds, without the names
 abbrev pub rule_of : Draft → Rule
 rule_of d = record {
-  lines = map (λ l. l.line) (draft_rule d).lines;
-  states = map (λ s. s.state) (draft_rule d).states;
+  lines = map (λ l. l.value) (draft_rule d).lines;
+  states = map (λ s. s.value) (draft_rule d).states;
   moves = (draft_rule d).moves;
 }
 

@@ -1,24 +1,24 @@
 // Pruning: the live and the safe states of a draft, its release state, and the pruned sets of each state.
 #![tactic(auto)]
 
-ghost use Rattle.std.specs.Prelude.{◌≡◌, ℕ, ◌<◌, ◌≤◌, ◌↔◌, length, slice_index};
-ghost use Rattle.events.specs.Sets.{◌∈◌};
-ghost use Rattle.rules.specs.automata.Rules.{WellFormed};
+ghost use Rattle.std.specs.Prelude.{◌≡◌, ℕ, ◌<◌, ◌≤◌, true, false, ◌↔◌, length, MatchOption, slice_index};
+ghost use Rattle.events.specs.Sets.{has, ◌∈◌};
+ghost use Rattle.rules.specs.automata.Rules.{Starts, WellFormed};
 ghost use Rattle.rules.specs.automata.Runs.{Live, Safe};
 ghost use Rattle.rules.specs.automata.Pruning.{IsPrunedSet, Wants};
 ghost use Rattle.pruning.specs.Drafts.{rule_of, IsRelease};
-ghost use Rattle.pruning.specs.Computed.{live_states, safe_in, safe_states, pruned_set};
+ghost use Rattle.pruning.specs.Computed.{live_states, safe_states, pruned_set};
 
-use crate::live::{accepting_states, edges_of, live_states};
-use crate::safe::safe_states;
-use crate::select::{released_set, selected_kept, selected_sets};
-use crate::states::{first, holds};
+use crate::live::Edges;
+use crate::moves::Moves;
+use crate::states::{first, holds, states_with};
 use rulefile::draft::Draft;
 
 mod live;
+mod moves;
 mod safe;
 mod select;
-mod states;
+pub mod states;
 
 // A draft with its live and its safe states.
 #[derive(Clone, Copy)]
@@ -30,30 +30,24 @@ pub struct Pruning<'d, 'a> {
     ghost safe_is: { safe ≡ safe_states (rule_of draft.now) },
 }
 
-// The live states of a draft.
-fn live_of(draft: &Draft) -> u32
-    ensures { result ≡ live_states (rule_of draft.now) }
-{
-    let edges = edges_of(draft.moves());
-    live_states(&edges, accepting_states(draft.states()))
-}
-
-// The safe states among the live ones.
-fn safe_of(draft: &Draft, live: u32) -> u32
-    ensures { result ≡ safe_in (rule_of draft.now).moves live }
-{
-    safe_states(draft.moves(), live)
-}
-
 impl<'d, 'a> Pruning<'d, 'a> {
     // The pruning of a draft.
     pub fn of(draft: &'d Draft<'a>) -> Pruning<'d, 'a>
         ensures same { result.draft.now ≡ draft.now }
         ensures well { WellFormed (rule_of draft.now) }
     {
-        let live = live_of(draft);
-        let safe = safe_of(draft, live);
+        let moves = Moves::of(draft);
+        let accepts = states_with(draft.states(), |state| state.accepting);
+        let live = Edges::of(&moves).live(accepts);
+        let safe = moves.safe_among(live);
         Pruning { draft, live, safe }
+    }
+
+    // The start states, bit q for the state q.
+    pub fn starts(&self) -> u32
+        ensures { (q : ℕ) → (q ∈ result) ↔ Starts (rule_of self.now.draft.now) q }
+    {
+        states_with(self.draft.states(), |state| state.start)
     }
 
     // The live states, bit q for the state q.
@@ -77,18 +71,18 @@ impl<'d, 'a> Pruning<'d, 'a> {
         first(self.safe)
     }
 
-    // The pruned set of a state at an event.
-    fn pruned_set(&self, state: u8, event: u8) -> u32
-        requires { event < 64 }
-        ensures { result ≡ pruned_set (rule_of self.now.draft.now) state event }
+    // The pruned set of a state where it is the same at each event: that of a safe state, or of one that is not live.
+    fn steady_set(&self, state: u8) -> Option<u32>
+        ensures { MatchOption result ((has self.now.safe state ≡ false) × (has self.now.live state ≡ true)) (λ set. (e : ℕ) → set ≡ pruned_set (rule_of self.now.draft.now) state e) }
     {
         if holds(self.safe, state) {
-            return released_set(self.safe, state);
+            return Some(self.released_set(state));
         }
         if holds(self.live, state) {
-            return selected_kept(self.draft.moves(), self.live, self.safe, state, event);
+            None
+        } else {
+            Some(0)
         }
-        0
     }
 
     // The pruned set of a state at an event. A number above 63 is no event, and a state that the rule does not have leads to nothing.
@@ -97,24 +91,17 @@ impl<'d, 'a> Pruning<'d, 'a> {
         ensures none { 64 ≤ event → result ≡ 0 }
         ensures past { length (rule_of self.now.draft.now).states ≤ state → result ≡ 0 }
     {
-        if event < 64 {
-            self.pruned_set(state, event)
-        } else {
-            0
-        }
+        self.sets(state).get(event as usize).copied().unwrap_or(0)
     }
 
     // The pruned sets of a state, by event.
     fn pruned_sets(&self, state: u8) -> [u32; 64]
         ensures { (e : ℕ) → e < 64 → slice_index result e ≡ pruned_set (rule_of self.now.draft.now) state e }
     {
-        if holds(self.safe, state) {
-            return [released_set(self.safe, state); 64];
+        match self.steady_set(state) {
+            Some(set) => [set; 64],
+            None => self.selected_sets(state),
         }
-        if holds(self.live, state) {
-            return selected_sets(self.draft.moves(), self.live, self.safe, state);
-        }
-        [0; 64]
     }
 
     // The pruned sets of a state, by event. A state that the rule does not have leads to nothing.

@@ -1,10 +1,11 @@
 // Sets of states, bit q for the state q.
-ghost use Rattle.std.specs.Prelude.{◌≡◌, ◌^◌, ◌<◌, if◌then◌else◌, Some, None, bit_or, nat_eq};
-ghost use Rattle.std.specs.Int.Count.{count_trailing_zeros};
+ghost use Rattle.std.specs.Prelude.{◌≡◌, ℕ, ◌^◌, ◌<◌, ◌≤◌, false, if◌then◌else◌, Some, None, MatchOption, nat_eq, slice_get};
 ghost use Rattle.events.specs.Sets.{has};
-ghost use Rattle.pruning.specs.Computed.{meets};
+ghost use Rattle.pruning.specs.Computed.{meets, lowest_member, settled};
 
 use events::contains;
+use rulefile::record::StateRecord;
+use rules::State;
 
 // How many states a set can hold.
 pub(crate) const WIDTH: u8 = 32;
@@ -13,7 +14,7 @@ pub(crate) const WIDTH: u8 = 32;
 pub(crate) fn holds(set: u32, state: u8) -> bool
     ensures { result ≡ has set state }
 {
-    contains(set as u64, state)
+    contains(u64::from(set), state)
 }
 
 // Whether two sets have a common member.
@@ -23,32 +24,65 @@ pub(crate) fn meet(a: u32, b: u32) -> bool
     a & b != 0
 }
 
-// The set of one state.
-pub(crate) fn only(state: u8) -> u32
-    requires { state < 32 }
-    ensures { result ≡ 2 ^ state }
+// The set of one state. A number above 31 is no state, and its set is empty.
+pub fn only(state: u8) -> u32
+    ensures one { state < 32 → result ≡ 2 ^ state }
+    ensures none { 32 ≤ state → result ≡ 0 }
 {
-    1 << state
+    if state < WIDTH { 1 << state } else { 0 }
 }
 
-// The set with a state put in where a test holds.
-pub(crate) fn put_if(test: bool, state: u8, set: u32) -> u32
-    requires { state < 32 }
-    ensures { result ≡ (if test then bit_or (2 ^ state) set else set) }
+// The states that pass a test.
+pub(crate) fn states_where<F: Fn(u8) -> bool>(test: F) -> u32
+    requires { (q : ℕ) → q < 32 → F.pre test q }
+    ensures { (q : ℕ) → q < 32 → F.post test q (has result q) }
 {
-    if test { only(state) | set } else { set }
+    let mut set = 0;
+    for q in 0..WIDTH {
+        if test(q) {
+            set |= only(q);
+        }
+    }
+    set
 }
 
-// The lowest member of the set, or 32 where it has none.
-pub(crate) fn lowest(set: u32) -> u8
-    ensures { result ≡ count_trailing_zeros 32 set }
+// The states whose records pass a test, bit q for the record at the place q. Records past the 32nd are left out.
+pub(crate) fn states_with<F: Fn(State) -> bool>(records: &[StateRecord], test: F) -> u32
+    requires { F.IsAlwaysCallable test }
+    ensures { (q : ℕ) → q < 32 → MatchOption (slice_get records.now q) (has result q ≡ false) (λ r. F.post test r.value (has result q)) }
 {
-    set.trailing_zeros() as u8
+    states_where(
+        |q|
+            requires { F.IsAlwaysCallable test }
+            ensures { MatchOption (slice_get records.entry.now q) (result ≡ false) (λ r. F.post test r.value result) }
+        {
+            match records.get(q as usize) {
+                Some(record) => test(record.value),
+                None => false,
+            }
+        },
+    )
+}
+
+// What a step makes of a set, round by round, until a round changes nothing, or for 32 rounds.
+pub(crate) fn settle<F: Fn(u32) -> u32>(seed: u32, step: F) -> u32
+    requires { F.IsAlwaysCallable step }
+    ensures { (g : ℕ → ℕ) → ((set next : ℕ) → set < 2 ^ 32 → F.post step set next → next ≡ g set) → result ≡ settled g seed }
+{
+    let mut set = seed;
+    for _round in 0..WIDTH {
+        let next = step(set);
+        if next == set {
+            return set;
+        }
+        set = next;
+    }
+    set
 }
 
 // The lowest member of the set, if it has any.
 pub(crate) fn first(set: u32) -> Option<u8>
-    ensures { result ≡ (if nat_eq set 0 then None else Some (count_trailing_zeros 32 set)) }
+    ensures { result ≡ (if nat_eq set 0 then None else Some (lowest_member set)) }
 {
-    if set == 0 { None } else { Some(lowest(set)) }
+    (set != 0).then(|| set.trailing_zeros() as u8)
 }

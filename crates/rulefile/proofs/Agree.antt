@@ -1,15 +1,15 @@
 -- A file and the records that its check wrote.
-use Rattle.std.proofs.Common.{◌≡◌, ℕ, ◌+◌, ◌-◌, ◌<◌, ◌≤◌, true, List, ◌++◌, map, length, take, drop, is_ok, Ok, Err, Result, sym, refl, ap, ◌∙◌, ap₂, arith}
+use Rattle.std.proofs.Common.{◌≡◌, ℕ, ◌+◌, ◌<◌, ◌≤◌, true, List, ◌++◌, map, length, take, drop, is_ok, Ok, Err, Result, sym, refl, ap, ◌∙◌, ap₂, arith}
 use Rattle.std.proofs.lemmas.List.{take-append-drop, drop_at, length-append, length-drop, length-map}
 use Rattle.codec.specs.Number.{Octets}
 use Rattle.rules.specs.declared.Move.{Move}
 use Rattle.rulefile.specs.declared.outline.Outline.{Outline}
 use Rattle.rulefile.specs.declared.fault.Refusal.TheVariants as refusal
 use Rattle.rulefile.specs.declared.fault.FileFault.{FileFault}
-use Rattle.rulefile.specs.declared.record.LineRecord.{LineRecord}
-use Rattle.rulefile.specs.declared.record.StateRecord.{StateRecord}
+use Rattle.rulefile.specs.Records.{LineRecord}
+use Rattle.rulefile.specs.Records.{StateRecord}
 use Rattle.rulefile.specs.File.{Contents, file_of, room, checked, overlaid, outlined, outline_of, rows_of, state_cards_at, move_cards_at, rows_of_lines, rows_of_states, rows_of_moves}
-use Rattle.rulefile.specs.Rule.{line_in, state_in, rule_in}
+use Rattle.rulefile.specs.Rule.{named_in, rule_in}
 use Rattle.rulefile.specs.Draft.{Agrees, OfFile, line, state, move, cards_of}
 use Rattle.codec.proofs.Steps.{inside_ok, then_ok}
 use Rattle.rulefile.proofs.Checked.{has_room, front, room_ok}
@@ -45,10 +45,10 @@ module _ (f : List ℕ) (o : Outline) (h : Ok o ≡ outlined (file_of f)) where
   pub moves_good : is_ok (move_cards_at f o.states o.moves_at o.moves) ≡ true
   moves_good = ap (λ (x : Outline). is_ok (move_cards_at f x.states x.moves_at x.moves)) found.2 ∙ ap is_ok (parts_of f found.0 found.1).moves_read
 
-  states_count : o.states ≡ length found.0.states
+  pub states_count : o.states ≡ length found.0.states
   states_count = ap (λ (x : Outline). x.states) found.2
 
-  moves_count : o.moves ≡ length found.0.moves
+  pub moves_count : o.moves ≡ length found.0.moves
   moves_count = ap (λ (x : Outline). x.moves) found.2
 
   pub states_range : (0 < o.states) × (o.states ≤ 32)
@@ -111,14 +111,14 @@ module _ (f : List ℕ) (ss : List StateRecord) (ms : List Move) (c : Contents) 
   pub drafted_lines : o.lines ≡ rows_of_lines (file_of f)
   drafted_lines = ap (λ (x : Outline). x.lines) is ∙ sym (ap rows_of_lines (agrees_file f ss ms c a))
 
-  pub drafted_states : take (o.states - 0) ss ≡ rows_of_states (file_of f)
+  pub drafted_states : take o.states ss ≡ rows_of_states (file_of f)
   drafted_states =
-      let n : o.states - 0 ≡ length c.states = omega (arith, ap (λ (x : Outline). x.states) is) in
+      let n : o.states ≡ length c.states = ap (λ (x : Outline). x.states) is in
       ap (λ k. take k ss) n ∙ (begins c.states ss a.states_are ∙ sym (ap rows_of_states (agrees_file f ss ms c a)))
 
-  pub drafted_moves : take (o.moves - 0) ms ≡ rows_of_moves (file_of f)
+  pub drafted_moves : take o.moves ms ≡ rows_of_moves (file_of f)
   drafted_moves =
-      let n : o.moves - 0 ≡ length c.moves = omega (arith, ap (λ (x : Outline). x.moves) is) in
+      let n : o.moves ≡ length c.moves = ap (λ (x : Outline). x.moves) is in
       ap (λ k. take k ms) n ∙ (begins c.moves ms a.moves_are ∙ sym (ap rows_of_moves (agrees_file f ss ms c a)))
 
 -- a draft has at most 1,062 cards
@@ -128,8 +128,8 @@ few_cards f ls ss ms six ok es em = go (file_of f) refl
   where
     long : length (cards_of (rule_in f ls ss ms)) ≡ length ls + (length ss + length ms)
     long =
-        length-append (map line (map (line_in f) ls)) _ ∙ ap₂ (λ (a b : ℕ). a + b) (length-map (map (line_in f) ls) line ∙ length-map ls (line_in f))
-        (length-append (map state (map (state_in f) ss)) _ ∙ ap₂ (λ (a b : ℕ). a + b) (length-map (map (state_in f) ss) state ∙ length-map ss (state_in f)) (length-map ms move))
+        length-append (map line (map (named_in f) ls)) _ ∙ ap₂ (λ (a b : ℕ). a + b) (length-map (map (named_in f) ls) line ∙ length-map ls (named_in f))
+        (length-append (map state (map (named_in f) ss)) _ ∙ ap₂ (λ (a b : ℕ). a + b) (length-map (map (named_in f) ss) state ∙ length-map ss (named_in f)) (length-map ms move))
 
     go : (r : Result Contents FileFault) → file_of f ≡ r → length (cards_of (rule_in f ls ss ms)) ≤ 1062
     go (Ok c) e =

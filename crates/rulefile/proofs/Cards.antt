@@ -4,14 +4,15 @@ use Rattle.std.specs.List.{AllByRecursion}
 use Rattle.std.proofs.lemmas.List.{drop_more}
 use Rattle.std.proofs.lemmas.Bool.{leb-true, le-leb, lt-leb, leb-false, and_parts, and_from}
 use Rattle.codec.specs.declared.fault.CardFault.TheVariants as card
-use Rattle.codec.specs.declared.read.Read.{Read}
+use Rattle.codec.specs.Reading.{Read}
 use Rattle.codec.specs.Number.{encode, Octets}
 use Rattle.codec.specs.Field.{field_at}
 use Rattle.codec.proofs.Steps.{inside_ok, then_ok, else_ok}
 use Rattle.codec.proofs.Spans.{Spans, join, split, span_end, span_take, span_none}
 use Rattle.codec.proofs.Fields.{ranged_sound, ranged_complete}
 use Rattle.rules.specs.declared.Move.{Move}
-use Rattle.rulefile.specs.Card.{LineValue, StateValue, is_name_byte, name_end, name_at, line_at, state_of_flags, state_at, move_at}
+use Rattle.rulefile.specs.Records.{LineValue, StateValue}
+use Rattle.rulefile.specs.Card.{is_name_byte, name_end, name_at, line_at, state_of_flags, state_at, move_at}
 use Rattle.rulefile.specs.Rule.{encode_name, encode_line, flags_of, encode_state, encode_move, GoodName, GoodLine, GoodState, GoodMove}
 
 abbrev pub Printed : ℕ → Type 0
@@ -113,10 +114,10 @@ module _ (f : List ℕ) (octets : Octets f) where
 
   pub line_complete : (l : LineValue) (p q : ℕ) → p ≤ length f → GoodLine l → Spans f p (encode_line l) q → line_at f p ≡ Ok (record { value = l; next = q })
   line_complete l p q h g s =
-      let t = split f p q (encode l.line.cost) _ h s in
-      let u = split f _ q (encode l.line.chance) _ t.0.inside t.1 in
-      let a = ranged_complete card.Short card.Number card.Range f octets p 1 1000 l.line.cost _ (omega arith) g.costs.0 g.costs.1 h t.0 in
-      let b = ranged_complete card.Short card.Number card.Range f octets _ 0 100 l.line.chance _ (omega arith) (omega arith) g.chances t.0.inside u.0 in
+      let t = split f p q (encode l.value.cost) _ h s in
+      let u = split f _ q (encode l.value.chance) _ t.0.inside t.1 in
+      let a = ranged_complete card.Short card.Number card.Range f octets p 1 1000 l.value.cost _ (omega arith) g.costs.0 g.costs.1 h t.0 in
+      let b = ranged_complete card.Short card.Number card.Range f octets _ 0 100 l.value.chance _ (omega arith) (omega arith) g.chances t.0.inside u.0 in
       let c = name_complete l.name _ q u.0.inside g.named u.1 in
       rw (a, b, c)
 
@@ -134,11 +135,11 @@ module _ (f : List ℕ) (octets : Octets f) where
 
   pub state_complete : (s : StateValue) (p q : ℕ) → p ≤ length f → GoodState s → Spans f p (encode_state s) q → state_at f p ≡ Ok (record { value = s; next = q })
   state_complete v p q h g s =
-      let t = split f p q (encode (flags_of v.state)) _ h s in
-      let few = flags_few v.state.start v.state.accepting in
-      let a = ranged_complete card.Short card.Number card.Range f octets p 0 3 (flags_of v.state) _ (omega arith) (omega arith) few h t.0 in
+      let t = split f p q (encode (flags_of v.value)) _ h s in
+      let few = flags_few v.value.start v.value.accepting in
+      let a = ranged_complete card.Short card.Number card.Range f octets p 0 3 (flags_of v.value) _ (omega arith) (omega arith) few h t.0 in
       let c = name_complete v.name _ q t.0.inside g t.1 in
-      let back = state_back v.state.start v.state.accepting in
+      let back = state_back v.value.start v.value.accepting in
       rw (a, c, back)
 
   -- a move

@@ -7,9 +7,9 @@ use Rattle.codec.proofs.Steps.{else_ok}
 use Rattle.rules.specs.declared.Move.{Move}
 use Rattle.rulefile.specs.declared.fault.FileFault.{FileFault}
 use Rattle.rulefile.specs.declared.outline.Outline.{Outline}
-use Rattle.rulefile.specs.declared.record.StateRecord.{StateRecord}
+use Rattle.rulefile.specs.Records.{StateRecord}
 use Rattle.rulefile.specs.File.{Contents, file_of, outline_of, outlined, room, overlaid}
-use Rattle.rulefile.specs.Rule.{Readable, Recorded, rule_of, state_in}
+use Rattle.rulefile.specs.Rule.{Readable, Recorded, rule_of, named_in}
 use Rattle.rulefile.proofs.Exact.{file_sound, file_complete}
 
 -- a call is answered by Ok exactly when the file can be read
@@ -40,13 +40,13 @@ pub recorded : (f : List ℕ) (c : Contents) (ss ss' : List StateRecord) (ms ms'
     → ss' ≡ overlaid c.states ss → ms' ≡ overlaid c.moves ms → Recorded f ss' ms' (record { states = length c.states; moves = length c.moves })
 recorded f c ss ss' ms ms' octets h es em =
     let t = file_sound f octets c h in
-    let long = length-map c.states (state_in f) in
+    let long = length-map c.states (named_in f) in
     record {
       rule = rule_of f c;
       holds = record {
         good = t.0;
         bytes = t.1;
-        states_are = ap (map (state_in f)) (front c.states ss ss' _ (sym long) es);
+        states_are = ap (map (named_in f)) (front c.states ss ss' _ (sym long) es);
         moves_are = front c.moves ms ms' _ refl em;
       };
       states_counted = sym long;

@@ -2,12 +2,12 @@
 use Rattle.std.proofs.Common.{◌≡◌, ℕ, ◌<◌, ◌≤◌, ltb, List, length, Some, None, Ok, Result, sym, subst, arith}
 use Rattle.rulefile.specs.declared.fault.FileFault.{FileFault}
 use Rattle.rulefile.specs.declared.fault.FileFault.TheVariants as fault
-use Rattle.codec.specs.declared.read.Read.{Read}
+use Rattle.codec.specs.Reading.{Read}
 use Rattle.rulefile.specs.declared.outline.Outline.{Outline}
 use Rattle.rulefile.specs.File.{Contents, file_of, count_at, line_cards_at, state_cards_at, move_cards_at, any_start, outlined, outline_of, line_record_at, state_record_at, next_move_at}
 use Rattle.codec.proofs.Steps.{inside_ok, then_ok, else_ok, if_ok}
 use Rattle.codec.proofs.Fields.{ranged_within}
-use Rattle.rulefile.proofs.Rows.{row_length}
+use Rattle.rulefile.proofs.RowSteps.{row_length}
 
 -- a count is in its range
 count_range : (f : List ℕ) (p low high : ℕ) (n : Read ℕ) → count_at f p low high ≡ Ok n → (low ≤ n.value) × (n.value ≤ high)
@@ -35,12 +35,12 @@ parts_of f c h =
     let m = then_ok (λ e. e) (count_at f states.0.next 0 1024) _ c start.1 in
     let moves = then_ok (λ e. e) (move_cards_at f n.0.value m.0.next m.0.value) _ c m.2 in
     let all = else_ok (ltb moves.0.next (length f)) _ _ c moves.2 in
-    let long = row_length {S = Unit {0}} (λ _. tt) (λ _. state_record_at f) n.0.value tt n.0.next states.0 states.1 in
-    let long' = row_length Some (next_move_at f n.0.value) m.0.value None m.0.next moves.0 moves.1 in
+    let long = row_length {S = Unit {0}} (λ _ _. tt) (λ _. state_record_at f) n.0.value tt n.0.next states.0 states.1 in
+    let long' = row_length (λ _ m. Some m) (next_move_at f n.0.value) m.0.value None m.0.next moves.0 moves.1 in
     let range = count_range f lines.0.next 1 32 n.0 n.1 in
     let range' = count_range f states.0.next 0 1024 m.0 m.1 in
     subst (Parts f) (inside_ok all.1) (record {
-      six = row_length {S = Unit {0}} (λ _. tt) (λ _. line_record_at f) 6 tt version.0.next lines.0 lines.1;
+      six = row_length {S = Unit {0}} (λ _ _. tt) (λ _. line_record_at f) 6 tt version.0.next lines.0 lines.1;
       some = omega arith;
       few = omega arith;
       few_moves = omega arith;

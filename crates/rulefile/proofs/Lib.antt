@@ -1,8 +1,10 @@
 pub mod Names
 pub mod Cards
-pub mod Rows
+pub mod RowSteps
 pub mod Files
 pub mod Exact
 pub mod Checked
 pub mod Agree
-pub mod Told
+pub mod Mapped
+pub mod Listed
+pub mod Characters

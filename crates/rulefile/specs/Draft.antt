@@ -3,12 +3,9 @@ use Rattle.std.specs.Prelude.{◌≡◌, ℕ, true, false, List, [], ◌∷◌, 
 use Rattle.rules.specs.declared.Move.{Move}
 use Rattle.rulefile.specs.declared.card.Card.{Card}
 use Rattle.rulefile.specs.declared.card.Card.TheVariants as card
-use Rattle.rulefile.specs.declared.card.LineCard.{LineCard}
-use Rattle.rulefile.specs.declared.card.StateCard.{StateCard}
+use Rattle.rulefile.specs.declared.card.Named.{Named}
 use Rattle.rulefile.specs.declared.draft.Draft.{Draft}
-use Rattle.rulefile.specs.declared.record.LineRecord.{LineRecord}
-use Rattle.rulefile.specs.declared.record.StateRecord.{StateRecord}
-use Rattle.rulefile.specs.Card.{LineValue, StateValue, line_value, state_value}
+use Rattle.rulefile.specs.Records.{LineRecord, StateRecord, NamedValue, LineValue, StateValue, named_value}
 use Rattle.rulefile.specs.File.{Contents, checked, overlaid}
 use Rattle.rulefile.specs.Rule.{Rule, GoodRule, encode_rule, rule_in}
 
@@ -49,33 +46,29 @@ OfFile f rule = GoodRule rule × (f ≡ encode_rule rule)
 -- six nameless lines of cost 1 and chance 0, one nameless start state, no moves
 abbrev pub empty_rule : Rule
 empty_rule = record {
-  lines = replicate 6 (record { line = record { cost = 1; chance = 0 }; name = [] });
-  states = record { state = record { start = true; accepting = false }; name = [] } ∷ [];
+  lines = replicate 6 (record { value = record { cost = 1; chance = 0 }; name = [] });
+  states = record { value = record { start = true; accepting = false }; name = [] } ∷ [];
   moves = [];
 }
 
 -- a nameless line whose name would stand at a place
 abbrev pub plain_line : ℕ → LineRecord
-plain_line p = record { line = record { cost = 1; chance = 0 }; name = record { at = p; len = 0 } }
+plain_line p = record { value = record { cost = 1; chance = 0 }; name = record { at = p; len = 0 } }
 
 -- the records of that rule, over its own file
 unfoldable pub empty_contents : DraftValue
 empty_contents = record {
   file = 1 ∷ 1 ∷ 0 ∷ 0 ∷ 1 ∷ 0 ∷ 0 ∷ 1 ∷ 0 ∷ 0 ∷ 1 ∷ 0 ∷ 0 ∷ 1 ∷ 0 ∷ 0 ∷ 1 ∷ 0 ∷ 0 ∷ 1 ∷ 1 ∷ 0 ∷ 0 ∷ [];
   lines = plain_line 4 ∷ plain_line 7 ∷ plain_line 10 ∷ plain_line 13 ∷ plain_line 16 ∷ plain_line 19 ∷ [];
-  states = record { state = record { start = true; accepting = false }; name = record { at = 22; len = 0 } } ∷ [];
+  states = record { value = record { start = true; accepting = false }; name = record { at = 22; len = 0 } } ∷ [];
   moves = [];
 }
 
 -- ---- what a draft tells
 
-abbrev pub line_option : Option LineCard → Option LineValue
-line_option None = None
-line_option (Some c) = Some (line_value c)
-
-abbrev pub state_option : Option StateCard → Option StateValue
-state_option None = None
-state_option (Some c) = Some (state_value c)
+abbrev pub named_option : {T : Type 0} → Option (Named T) → Option (NamedValue T)
+named_option None = None
+named_option (Some c) = Some (named_value c)
 
 -- a card as a value
 pub data CardValue : Type 0 where
@@ -84,8 +77,8 @@ pub data CardValue : Type 0 where
   move : Move → CardValue
 
 abbrev pub card_value : Card → CardValue
-card_value (card.Line c) = line (line_value c)
-card_value (card.State c) = state (state_value c)
+card_value (card.Line c) = line (named_value c)
+card_value (card.State c) = state (named_value c)
 card_value (card.Move m) = move m
 
 abbrev pub card_option : Option Card → Option CardValue

@@ -1,6 +1,7 @@
 -- What reading a rule file answers, by its bytes: the leftmost fault, or what the file holds.
 use Rattle.std.specs.Prelude.{ℕ, zero, suc, ◌-◌, Bool, true, false, cond, ◌&&◌, ◌||◌, List, [], ◌∷◌, ◌++◌, length, drop, Some, None, Ok, Err, Option, Result, ◌==◌, nat_le, nat_lt}
-use Rattle.codec.specs.declared.read.Read.{Read}
+use Rattle.codec.specs.Reading.{Read}
+use Rattle.codec.specs.declared.fault.CardFault.{CardFault}
 use Rattle.codec.specs.Field.{ranged_at}
 use Rattle.codec.specs.Steps.{and_then}
 use Rattle.rules.specs.declared.Move.{Move}
@@ -10,10 +11,10 @@ use Rattle.rulefile.specs.declared.fault.Refusal.{Refusal}
 use Rattle.rulefile.specs.declared.fault.Refusal.TheVariants as refusal
 use Rattle.rulefile.specs.declared.outline.Outline.{Outline}
 use Rattle.rulefile.specs.declared.record.Counts.{Counts}
-use Rattle.rulefile.specs.declared.record.LineRecord.{LineRecord}
 use Rattle.rulefile.specs.declared.record.Name.{Name}
-use Rattle.rulefile.specs.declared.record.StateRecord.{StateRecord}
-use Rattle.rulefile.specs.Card.{line_at, state_at, move_at}
+use Rattle.rulefile.specs.declared.record.Record.{Record}
+use Rattle.rulefile.specs.Records.{LineRecord, StateRecord, NamedValue}
+use Rattle.rulefile.specs.Card.{line_at, state_at, move_among}
 
 -- ---- one part of the file at a place
 
@@ -29,20 +30,21 @@ card_from f p r = cond (nat_le (length f) p) (Err (fault.Short (length f))) r
 abbrev pub name_before : ℕ → List ℕ → Name
 name_before q name = record { at = q - length name; len = length name }
 
-abbrev pub line_record_at : List ℕ → ℕ → Result (Read LineRecord) FileFault
-line_record_at f p = card_from f p (and_then fault.Card (line_at f p) (λ c. Ok (record {
-  value = record { line = c.value.line; name = name_before c.next c.value.name };
+-- the record of a card
+abbrev pub record_at : {T : Type 0} → (List ℕ → ℕ → Result (Read (NamedValue T)) CardFault) → List ℕ → ℕ → Result (Read (Record T)) FileFault
+record_at card f p = card_from f p (and_then fault.Card (card f p) (λ c. Ok (record {
+  value = record { value = c.value.value; name = name_before c.next c.value.name };
   next = c.next;
 })))
+
+abbrev pub line_record_at : List ℕ → ℕ → Result (Read LineRecord) FileFault
+line_record_at f p = record_at line_at f p
 
 abbrev pub state_record_at : List ℕ → ℕ → Result (Read StateRecord) FileFault
-state_record_at f p = card_from f p (and_then fault.Card (state_at f p) (λ c. Ok (record {
-  value = record { state = c.value.state; name = name_before c.next c.value.name };
-  next = c.next;
-})))
+state_record_at f p = record_at state_at f p
 
-abbrev pub move_record_at : List ℕ → ℕ → ℕ → Result (Read Move) FileFault
-move_record_at f p n = card_from f p (and_then fault.Card (move_at f p n) (λ c. Ok c))
+abbrev pub move_record_among : List ℕ → ℕ → ℕ → Result (Read Move) FileFault
+move_record_among f p highest = card_from f p (and_then fault.Card (move_among f p highest) (λ c. Ok c))
 
 -- a move stands above another by from-state, then cell, then to-state
 abbrev pub before : Move → Move → Bool
@@ -54,22 +56,27 @@ follows None b = true
 follows (Some a) b = before a b
 
 -- a move that stands above the last one; that is looked at once the whole move is read
+abbrev pub next_move_among : List ℕ → ℕ → Option Move → ℕ → Result (Read Move) FileFault
+next_move_among f highest last p =
+    and_then (λ e. e) (move_record_among f p highest) (λ m. cond (follows last m.value) (Ok m) (Err (fault.Order p)))
+
+-- the same for so many states
 abbrev pub next_move_at : List ℕ → ℕ → Option Move → ℕ → Result (Read Move) FileFault
-next_move_at f n last p = and_then (λ e. e) (move_record_at f p n) (λ m. cond (follows last m.value) (Ok m) (Err (fault.Order p)))
+next_move_at f n last p = next_move_among f (n - 1) last p
 
 -- ---- parts in a row
 
--- so many in a row; each may look at what the one before left
-unfoldable pub row_from : {A S : Type 0} → (A → S) → (S → ℕ → Result (Read A) FileFault) → S → ℕ → ℕ → Result (Read (List A)) FileFault
-row_from left one s p zero = Ok (record { value = []; next = p })
-row_from left one s p (suc k) =
+-- so many in a row; each may look at what is kept of those before it
+unfoldable pub row_from : {A S : Type 0} → (S → A → S) → (S → ℕ → Result (Read A) FileFault) → S → ℕ → ℕ → Result (Read (List A)) FileFault
+row_from kept one s p zero = Ok (record { value = []; next = p })
+row_from kept one s p (suc k) =
     and_then (λ e. e) (one s p) (λ a.
-    and_then (λ e. e) (row_from left one (left a.value) a.next k) (λ r.
+    and_then (λ e. e) (row_from kept one (kept s a.value) a.next k) (λ r.
     Ok (record { value = a.value ∷ r.value; next = r.next })))
 
 -- so many cards in a row
 abbrev pub cards_from : {A : Type 0} → (ℕ → Result (Read A) FileFault) → ℕ → ℕ → Result (Read (List A)) FileFault
-cards_from one p k = row_from {S = Unit {0}} (λ _. tt) (λ _. one) tt p k
+cards_from one p k = row_from {S = Unit {0}} (λ _ _. tt) (λ _. one) tt p k
 
 abbrev pub line_cards_at : List ℕ → ℕ → Result (Read (List LineRecord)) FileFault
 line_cards_at f p = cards_from (line_record_at f) p 6
@@ -78,11 +85,16 @@ abbrev pub state_cards_at : List ℕ → ℕ → ℕ → Result (Read (List Stat
 state_cards_at f p n = cards_from (state_record_at f) p n
 
 abbrev pub move_cards_at : List ℕ → ℕ → ℕ → ℕ → Result (Read (List Move)) FileFault
-move_cards_at f n p k = row_from Some (next_move_at f n) None p k
+move_cards_at f n p k = row_from (λ _ m. Some m) (next_move_at f n) None p k
 
 -- a result by a function of what was read
 abbrev pub read_by : {A B : Type 0} → (A → B) → Result (Read A) FileFault → Result (Read B) FileFault
 read_by g r = and_then (λ e. e) r (λ a. Ok (record { value = g a.value; next = a.next }))
+
+-- a result with another value
+abbrev pub giving : {A B E : Type 0} → B → Result A E → Result B E
+giving b (Ok a) = Ok b
+giving b (Err e) = Err e
 
 -- the rows that were read
 abbrev pub rows_of : {A : Type 0} → Result (Read (List A)) FileFault → List A
@@ -94,7 +106,7 @@ rows_of (Err e) = []
 -- whether a start state is among them
 abbrev pub any_start : List StateRecord → Bool
 any_start [] = false
-any_start (s ∷ ss) = s.state.start || any_start ss
+any_start (s ∷ ss) = s.value.start || any_start ss
 
 -- what a file holds, and where its states and moves begin
 pub record Contents : Type 0 where

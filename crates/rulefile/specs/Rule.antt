@@ -5,10 +5,9 @@ use Rattle.codec.specs.Number.{encode, Octets}
 use Rattle.rules.specs.declared.Move.{Move}
 use Rattle.rules.specs.declared.State.{State}
 use Rattle.rulefile.specs.declared.record.Counts.{Counts}
-use Rattle.rulefile.specs.declared.record.LineRecord.{LineRecord}
 use Rattle.rulefile.specs.declared.record.Name.{Name}
-use Rattle.rulefile.specs.declared.record.StateRecord.{StateRecord}
-use Rattle.rulefile.specs.Card.{LineValue, StateValue}
+use Rattle.rulefile.specs.declared.record.Record.{Record}
+use Rattle.rulefile.specs.Records.{LineRecord, StateRecord, NamedValue, LineValue, StateValue}
 use Rattle.rulefile.specs.File.{Contents, file_of}
 
 -- a rule as its file has it: lines and states with their names, and moves
@@ -25,7 +24,7 @@ encode_name name = encode (length name) ++ name
 
 -- a line card: cost, chance, name
 abbrev pub encode_line : LineValue → List ℕ
-encode_line l = encode l.line.cost ++ (encode l.line.chance ++ encode_name l.name)
+encode_line l = encode l.value.cost ++ (encode l.value.chance ++ encode_name l.name)
 
 -- 1 is a start state, 2 an accepting state, 3 both
 abbrev pub flags_of : State → ℕ
@@ -33,7 +32,7 @@ flags_of s = cond s.start 1 0 + cond s.accepting 2 0
 
 -- a state card: flags, name
 abbrev pub encode_state : StateValue → List ℕ
-encode_state s = encode (flags_of s.state) ++ encode_name s.name
+encode_state s = encode (flags_of s.value) ++ encode_name s.name
 
 -- a move: from-state, cell, to-state
 abbrev pub encode_move : Move → List ℕ
@@ -55,8 +54,8 @@ pub record GoodName (name : List ℕ) : Type 0 where
 
 -- a cost of 1 to 1,000 and a chance of 0 to 100
 pub record GoodLine (l : LineValue) : Type 0 where
-  pub costs : (1 ≤ l.line.cost) × (l.line.cost ≤ 1000)
-  pub chances : l.line.chance ≤ 100
+  pub costs : (1 ≤ l.value.cost) × (l.value.cost ≤ 1000)
+  pub chances : l.value.chance ≤ 100
   pub named : GoodName l.name
 
 abbrev pub GoodState : StateValue → Type 0
@@ -81,7 +80,7 @@ Ascending (a ∷ b ∷ ms) = Before a b × Ascending (b ∷ ms)
 -- one of them is a start state
 abbrev pub HasStart : List StateValue → Type 0
 HasStart [] = ⊥
-HasStart (s ∷ ss) = (s.state.start ≡ true) ⊎ HasStart ss
+HasStart (s ∷ ss) = (s.value.start ≡ true) ⊎ HasStart ss
 
 -- six lines, 1 to 32 states with a start state among them, at most 1,024 moves, strictly ascending, all in their ranges
 pub record GoodRule (r : Rule) : Type 0 where
@@ -101,15 +100,13 @@ pub record GoodRule (r : Rule) : Type 0 where
 abbrev pub name_in : List ℕ → Name → List ℕ
 name_in f name = take name.len (drop name.at f)
 
-abbrev pub line_in : List ℕ → LineRecord → LineValue
-line_in f l = record { line = l.line; name = name_in f l.name }
-
-abbrev pub state_in : List ℕ → StateRecord → StateValue
-state_in f s = record { state = s.state; name = name_in f s.name }
+-- the value that a record stands for, with its name
+abbrev pub named_in : {T : Type 0} → List ℕ → Record T → NamedValue T
+named_in f r = record { value = r.value; name = name_in f r.name }
 
 -- the rule that records stand for, with their names in the file
 abbrev pub rule_in : List ℕ → List LineRecord → List StateRecord → List Move → Rule
-rule_in f lines states moves = record { lines = map (line_in f) lines; states = map (state_in f) states; moves = moves }
+rule_in f lines states moves = record { lines = map (named_in f) lines; states = map (named_in f) states; moves = moves }
 
 -- what a file holds as a rule
 abbrev pub rule_of : List ℕ → Contents → Rule
@@ -127,7 +124,7 @@ FileExact = (f : List ℕ) → Octets f → (r : Rule)
 pub record Holds (f : List ℕ) (states : List StateRecord) (moves : List Move) (r : Rule) : Type 0 where
   pub good : GoodRule r
   pub bytes : f ≡ encode_rule r
-  pub states_are : map (state_in f) (take (length r.states) states) ≡ r.states
+  pub states_are : map (named_in f) (take (length r.states) states) ≡ r.states
   pub moves_are : take (length r.moves) moves ≡ r.moves
 
 -- the lists hold a rule of so many states and moves

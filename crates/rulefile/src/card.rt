@@ -1,25 +1,26 @@
 // Cards: line cards, state cards and moves. A card's name is a part of the file.
-ghost use Rattle.std.specs.Prelude.{◌≡◌, ◌<◌, ◌≤◌, length, IfOk};
-ghost use Rattle.rulefile.specs.Card.{is_name_byte, name_end, name_at, names_of, state_of_flags, lines_of, states_of, line_at, state_at, move_at};
+ghost use Rattle.std.specs.Prelude.{◌≡◌, ℕ, ◌+◌, ◌<◌, ◌≤◌, List, length, IfOk, Result};
+ghost use Rattle.codec.specs.declared.fault.CardFault.{CardFault};
+ghost use Rattle.codec.specs.Reading.{Read, read_to};
+ghost use Rattle.rulefile.specs.Records.{NamedValue};
+ghost use Rattle.rulefile.specs.Card.{is_name_byte, name_end, name_at, name_of, named_of, state_of_flags, line_at, state_at, move_among};
 
 use codec::fault::CardFault;
-use codec::field::read_field;
-use codec::read::Read;
+use codec::reader::Reader;
 use rules::{Line, Move, State};
 
-// A line with its name.
+// A value with its name.
 #[derive(Clone, Copy)]
-pub struct LineCard<'a> {
-    pub line: Line,
+pub struct Named<'a, T> {
+    pub value: T,
     pub name: &'a [u8],
 }
 
+// A line with its name.
+pub type LineCard<'a> = Named<'a, Line>;
+
 // A state with its name.
-#[derive(Clone, Copy)]
-pub struct StateCard<'a> {
-    pub state: State,
-    pub name: &'a [u8],
-}
+pub type StateCard<'a> = Named<'a, State>;
 
 // One entry of a rule file.
 #[derive(Clone, Copy)]
@@ -36,7 +37,7 @@ fn is_name_byte(byte: u8) -> bool
     33 <= byte && byte <= 126
 }
 
-// The place behind the `count` name bytes that begin at `at`.
+// The place behind the `count` name bytes that begin at `at`. The loop goes by places, since each of the two faults tells one.
 fn name_end(file: &[u8], at: usize, count: u32) -> Result<usize, CardFault>
     requires { at ≤ length file.now }
     ensures value { result ≡ name_end file.now at count }
@@ -54,20 +55,20 @@ fn name_end(file: &[u8], at: usize, count: u32) -> Result<usize, CardFault>
     Ok(end)
 }
 
-fn read_name<'a>(file: &'a [u8], at: usize) -> Result<Read<&'a [u8]>, CardFault>
-    ensures within { IfOk result (λ n. (length n.value.now ≤ n.next) × (n.next ≤ length file.now)) }
-    ensures value { names_of result ≡ name_at file.now at }
+// Reads a name: its length, and its bytes.
+fn read_name<'a>(reader: &mut Reader<'a>) -> Result<&'a [u8], CardFault>
+    ensures value { read_to (name_of result) reader.new.at ≡ name_at reader.old.bytes.now reader.old.at }
+    ensures kept { reader.new.bytes ≡ reader.old.bytes }
+    ensures within { IfOk result (λ n. (length n.now ≤ reader.new.at) × (reader.new.at ≤ length reader.old.bytes.now)) }
 {
-    let count = read_field(file, at, 0, 16)?;
-    let start = count.next;
-    let end = name_end(file, start, count.value)?;
-    Ok(Read {
-        value: &file[start..end],
-        next: end,
-    })
+    let count = reader.read_field(0, 16)?;
+    let start = reader.at;
+    let end = name_end(reader.bytes, start, count)?;
+    reader.at = end;
+    Ok(&reader.bytes[start..end])
 }
 
-// The flags of a state: 1 is a start state, 2 an accepting state, 3 both.
+// The flags of a state: 1 is a start state, 2 an accepting state, 3 both. A function and no `From`, since `State` is a type of another crate.
 fn state_of(flags: u32) -> State
     ensures { result ≡ state_of_flags flags }
 {
@@ -77,60 +78,49 @@ fn state_of(flags: u32) -> State
     }
 }
 
-pub(crate) fn read_line_card<'a>(file: &'a [u8], at: usize) -> Result<Read<LineCard<'a>>, CardFault>
-    ensures within { IfOk result (λ n. (length n.value.name.now ≤ n.next) × (n.next ≤ length file.now)) }
-    ensures value { lines_of result ≡ line_at file.now at }
-{
-    let cost = read_field(file, at, 1, 1000)?;
-    let chance = read_field(file, cost.next, 0, 100)?;
-    let name = read_name(file, chance.next)?;
-    let line = Line {
-        cost: cost.value as u16,
-        chance: chance.value as u8,
-    };
-    Ok(Read {
-        value: LineCard {
-            line,
-            name: name.value,
-        },
-        next: name.next,
-    })
+// What has a card with a name.
+pub(crate) trait OnCard: Copy {
+    // the card that begins at a place
+    ghost card_at: { List ℕ → ℕ → Result (Read (NamedValue Self)) CardFault };
+
+    // Reads the card that begins at the place.
+    fn read_card<'a>(reader: &mut Reader<'a>) -> Result<Named<'a, Self>, CardFault>
+        ensures value { read_to (named_of result) reader.new.at ≡ card_at reader.old.bytes.now reader.old.at }
+        ensures kept { reader.new.bytes ≡ reader.old.bytes }
+        ensures within { IfOk result (λ n. (length n.name.now ≤ reader.new.at) × (reader.new.at ≤ length reader.old.bytes.now)) };
 }
 
-pub(crate) fn read_state_card<'a>(
-    file: &'a [u8],
-    at: usize,
-) -> Result<Read<StateCard<'a>>, CardFault>
-    ensures within { IfOk result (λ n. (length n.value.name.now ≤ n.next) × (n.next ≤ length file.now)) }
-    ensures value { states_of result ≡ state_at file.now at }
-{
-    let flags = read_field(file, at, 0, 3)?;
-    let name = read_name(file, flags.next)?;
-    let state = state_of(flags.value);
-    Ok(Read {
-        value: StateCard {
-            state,
-            name: name.value,
-        },
-        next: name.next,
-    })
+impl OnCard for Line {
+    ghost card_at = { line_at };
+
+    fn read_card<'a>(reader: &mut Reader<'a>) -> Result<Named<'a, Line>, CardFault> {
+        let cost = reader.read_field(1, 1000)? as u16;
+        let chance = reader.read_field(0, 100)? as u8;
+        let name = read_name(reader)?;
+        Ok(Named {
+            value: Line { cost, chance },
+            name,
+        })
+    }
 }
 
-// A move between states below `states`.
-pub(crate) fn read_move(file: &[u8], at: usize, states: u32) -> Result<Read<Move>, CardFault>
-    requires { (0 < states) × (states ≤ 32) }
-    ensures { result ≡ move_at file.now at states }
+impl OnCard for State {
+    ghost card_at = { state_at };
+
+    fn read_card<'a>(reader: &mut Reader<'a>) -> Result<Named<'a, State>, CardFault> {
+        let value = state_of(reader.read_field(0, 3)?);
+        let name = read_name(reader)?;
+        Ok(Named { value, name })
+    }
+}
+
+// Reads a move between states up to `highest`.
+pub(crate) fn read_move(reader: &mut Reader, highest: u8) -> Result<Move, CardFault>
+    ensures value { read_to result reader.new.at ≡ move_among reader.old.bytes.now reader.old.at highest }
+    ensures kept { reader.new.bytes ≡ reader.old.bytes }
 {
-    let from = read_field(file, at, 0, states - 1)?;
-    let cell = read_field(file, from.next, 0, 728)?;
-    let to = read_field(file, cell.next, 0, states - 1)?;
-    let value = Move {
-        from: from.value as u8,
-        cell: cell.value as u16,
-        to: to.value as u8,
-    };
-    Ok(Read {
-        value,
-        next: to.next,
-    })
+    let from = reader.read_field(0, u32::from(highest))? as u8;
+    let cell = reader.read_field(0, 728)? as u16;
+    let to = reader.read_field(0, u32::from(highest))? as u8;
+    Ok(Move { from, cell, to })
 }

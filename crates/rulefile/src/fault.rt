@@ -2,9 +2,9 @@
 ghost use Rattle.std.specs.Prelude.{◌≡◌};
 ghost use Rattle.rulefile.specs.declared.fault.FileFault.{FileFault};
 ghost use Rattle.rulefile.specs.declared.fault.Refusal.{Refusal};
-ghost use Rattle.rulefile.specs.Fault.{in_file, file_report, refusal_number, refusal_place};
+ghost use Rattle.rulefile.specs.Fault.{file_report, refusal_number, refusal_place};
 
-use codec::fault::{CardFault, Layer, NumberFault, Report};
+use codec::fault::{CardFault, Layer, NumberFault, RangeFault, Report};
 
 // A file that cannot be read. A fault of a card or of a number is carried whole.
 #[derive(Clone, Copy)]
@@ -33,12 +33,31 @@ pub enum Refusal {
     File(FileFault),
 }
 
+// A `From` of its own: what a derive writes has no contract, and callers of `?` are to know which fault they carry.
 impl From<NumberFault> for FileFault {
     ghost from_gives = { λ x y. y ≡ FileFault.Number x };
 
     fn from(fault: NumberFault) -> FileFault {
         FileFault::Number(fault)
     }
+}
+
+impl RangeFault for FileFault {
+    ghost short = { λ place. FileFault.Short place };
+
+    ghost carried = { λ fault. FileFault.Number fault };
+
+    ghost outside = { λ place. FileFault.Range place };
+
+    fn short(place: usize) -> Self {
+        Self::Short { place }
+    }
+
+    fn outside(place: usize) -> Self {
+        Self::Range { place }
+    }
+
+    ghost carries = { λ fault given is. is };
 }
 
 impl From<CardFault> for FileFault {
@@ -57,36 +76,31 @@ impl From<FileFault> for Refusal {
     }
 }
 
-// A fault of the file's own layer.
-fn of_file(number: u8, place: usize) -> Report
-    ensures { result ≡ in_file number place }
-{
-    Report {
-        number,
-        place,
-        layer: Layer::File,
-    }
-}
-
 impl FileFault {
-    // The number, place and layer of the fault; those of the card's or number's fault where it carries one.
+    // The number, place and layer of the fault; those of the card's or number's fault where it carries one. A method and no `From`, since it tells of
+    // the fault and does not turn it into another thing.
     pub fn report(self) -> Report
         ensures { result ≡ file_report self }
     {
-        match self {
-            FileFault::Card(fault) => fault.report(),
-            FileFault::Number(fault) => fault.report(),
-            FileFault::Short { place } => of_file(11, place),
-            FileFault::Range { place } => of_file(13, place),
-            FileFault::Order { place } => of_file(15, place),
-            FileFault::Trailing { place } => of_file(16, place),
-            FileFault::NoStart { place } => of_file(17, place),
+        let (number, place) = match self {
+            FileFault::Card(fault) => return fault.report(),
+            FileFault::Number(fault) => return fault.report(),
+            FileFault::Short { place } => (11, place),
+            FileFault::Range { place } => (13, place),
+            FileFault::Order { place } => (15, place),
+            FileFault::Trailing { place } => (16, place),
+            FileFault::NoStart { place } => (17, place),
+        };
+        Report {
+            number,
+            place,
+            layer: Layer::File,
         }
     }
 }
 
 impl Refusal {
-    // The refusal's number.
+    // The refusal's number. A method and no `From`: `u8::from` would not say which number.
     pub fn number(self) -> u8
         ensures { result ≡ refusal_number self }
     {

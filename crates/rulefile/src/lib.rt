@@ -3,7 +3,9 @@
 
 pub mod card;
 pub mod check;
+mod display;
 pub mod draft;
 pub mod fault;
 mod outline;
 pub mod record;
+mod rows;

@@ -2,4 +2,3 @@
 pub mod automata
 pub mod trees
 pub mod watch
-pub mod cases

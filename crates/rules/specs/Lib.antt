@@ -3,3 +3,4 @@ pub mod automata
 pub mod trees
 pub mod watch
 pub mod Theorems
+pub mod Text

@@ -1,5 +1,5 @@
 -- The theorems that stand on the definitions alone, as statements.
-use Rattle.std.specs.Prelude.{◌≡◌, ℕ, ◌<◌, ◌≤◌, ◌↔◌, List, ◌++◌, length, take}
+use Rattle.std.specs.Prelude.{◌≡◌, ℕ, ◌<◌, ◌≤◌, ◌↔◌, List, ◌++◌, length, take, Result}
 use Rattle.std.specs.List.{AllByRecursion}
 use Rattle.events.specs.Sets.{◌∈◌}
 use Rattle.rules.specs.declared.Line.{Line}
@@ -7,6 +7,7 @@ use Rattle.rules.specs.declared.Node.{Node}
 use Rattle.rules.specs.declared.Verdict.{Verdict}
 use Rattle.rules.specs.declared.Verdict.TheVariants as verdict
 use Rattle.rules.specs.declared.Call.{Call}
+use Rattle.rules.specs.declared.Refusal.{Refusal}
 use Rattle.rules.specs.declared.Answer.{Answer}
 use Rattle.rules.specs.automata.Rules.{Rule, WellFormed, Event}
 use Rattle.rules.specs.automata.Runs.{Ending, NoEnding, Live, Reaches, ReachesLive, ReachesSafe}
@@ -128,7 +129,7 @@ ClearPollsNothing =
 abbrev pub PromiseDetermined : Type 0
 PromiseDetermined =
     (price : Price) (rule : Rule) (trees trees' : List Tree) (costs costs' : List ℕ) (calls : List Call) (coming : List ℕ)
-    (answers answers' : List Answer) (left left' : List ℕ) → AllByRecursion (Event rule) coming
+    (answers answers' : List (Result Answer Refusal)) (left left' : List ℕ) → AllByRecursion (Event rule) coming
     → Promise price rule trees costs calls coming answers left → Promise price rule trees' costs' calls coming answers' left'
     → (trees ≡ trees') × (costs ≡ costs') × (answers ≡ answers') × (left ≡ left')
 
@@ -137,4 +138,4 @@ abbrev pub PromiseKept : Type 0
 PromiseKept =
     (price : Price) (rule : Rule) (live safe release : ℕ) → Lawful price → WellFormed rule → Kinds rule live safe release
     → (calls : List Call) (coming : List ℕ)
-    → (trees : List Tree) × ((costs : List ℕ) × ((answers : List Answer) × ((left : List ℕ) × Promise price rule trees costs calls coming answers left)))
+    → (trees : List Tree) × ((costs : List ℕ) × ((answers : List (Result Answer Refusal)) × ((left : List ℕ) × Promise price rule trees costs calls coming answers left)))

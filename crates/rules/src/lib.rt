@@ -1,12 +1,17 @@
-// The records of a rule, and the calls and answers of a watch. The definitions in specs/ say what they mean.
+// The records of a rule, and the calls and answers of a watch. The definitions in specs/ say what they mean, and `theorems` what follows from them.
 #![tactic(auto)]
 
 ghost use Rattle.std.specs.Prelude.{◌≡◌};
 ghost use Rattle.rules.specs.watch.Verdicts.{word_of};
 ghost use Rattle.rules.specs.watch.Calls.{number_of, index_of};
-ghost use Rattle.rules.specs.Theorems.{EndingsReachLive, SafeKeepsEndings, NoEndingStays, PrunedDetermined, SelectedPruned, ServesImplements};
-ghost use Rattle.rules.specs.Theorems.{BestFitted, FittedDetermined, MeasuresLawful, ExpectedIsMean, TreesSmall, LayoutStands, StandsDetermined};
-ghost use Rattle.rules.specs.Theorems.{VerdictShown, HeldMeans, FittedSound, ClearPollsNothing, PromiseDetermined, PromiseKept};
+
+mod theorems;
+
+pub use theorems::{
+    endings_stand, fitting_stands, layouts_stand, promises_stand, pruning_stands, verdicts_stand,
+};
+
+mod display;
 
 // One of the six lines: what a poll of it costs, 1 to 1,000 milliseconds, and its chance of being on, 0 to 100 hundredths.
 #[derive(Clone, Copy, Default, PartialEq, Eq)]
@@ -32,6 +37,7 @@ pub struct Move {
 }
 
 // A node of a polling tree in a list of nodes: a fork on a line, with the places of its parts, or a leaf with a set of states, bit t for state t.
+// Parts are places in the lent list and no boxes, since the product has no heap.
 #[derive(Clone, Copy, PartialEq, Eq)]
 pub enum Node {
     Fork { line: u8, on: u16, off: u16 },
@@ -62,7 +68,7 @@ pub enum Word {
     Clear,
 }
 
-// One call of a watch. A rehearsal tries a list of events.
+// One call of a watch, as data: the whole promise speaks of lists of calls. A rehearsal tries a list of events.
 #[derive(Clone, Copy)]
 pub enum Call<'a> {
     Take,
@@ -72,7 +78,7 @@ pub enum Call<'a> {
 }
 
 // Why a call is refused.
-#[derive(Clone, Copy)]
+#[derive(Clone, Copy, PartialEq, Eq)]
 pub enum Refusal {
     // 41: a breach stands
     Breached,
@@ -84,18 +90,38 @@ pub enum Refusal {
     NoEvent { at: usize },
 }
 
-// What a call answers.
-#[derive(Clone, Copy)]
+// A take's answer: the verdict that the watch then shows, and the set of the lines polled, bit i for line i.
+#[derive(Clone, Copy, PartialEq, Eq)]
+pub struct Taken {
+    pub verdict: Verdict,
+    pub polled: u8,
+}
+
+// A look's answer: what the watch shows, and how many events it has taken since it was last armed.
+#[derive(Clone, Copy, PartialEq, Eq)]
+pub struct Shown {
+    pub verdict: Verdict,
+    pub count: u32,
+}
+
+// A rehearsal's answer: the word that it came to, and how many events were tried.
+#[derive(Clone, Copy, PartialEq, Eq)]
+pub struct Tried {
+    pub word: Word,
+    pub count: usize,
+}
+
+// What a call answers where it is not refused.
+#[derive(Clone, Copy, PartialEq, Eq)]
 pub enum Answer {
-    Taken { verdict: Verdict, polled: u8 },
-    Shown { verdict: Verdict, count: u32 },
-    Tried { word: Word, count: usize },
+    Taken(Taken),
+    Shown(Shown),
+    Tried(Tried),
     Armed,
-    Refused(Refusal),
 }
 
 impl Verdict {
-    // The verdict's word.
+    // The verdict's word. A method and no `From`, since a verdict has a count as well, and its word is a part of it.
     pub fn word(self) -> Word
         ensures { result ≡ word_of self }
     {
@@ -108,7 +134,7 @@ impl Verdict {
 }
 
 impl Refusal {
-    // The number that the refusal is told by.
+    // The number that the refusal is told by. A method and no `From`: `u8::from` would not say which number.
     pub fn number(self) -> u8
         ensures { result ≡ number_of self }
     {
@@ -129,59 +155,4 @@ impl Refusal {
             _ => None,
         }
     }
-}
-
-// Endings are runs to live states, and safe states keep them.
-pub fn endings_stand() -> u8
-    ensures live { EndingsReachLive }
-    ensures safe { SafeKeepsEndings }
-    ensures none { NoEndingStays }
-{
-    0
-}
-
-// Pruned sets are what events select from the pruned moves.
-pub fn pruning_stands() -> u8
-    ensures determined { PrunedDetermined }
-    ensures selected { SelectedPruned }
-    ensures implements { ServesImplements }
-{
-    0
-}
-
-// The best trees are fitted, and the expected cost is the mean.
-pub fn fitting_stands() -> u8
-    ensures best { BestFitted }
-    ensures determined { FittedDetermined }
-    ensures lawful { MeasuresLawful }
-    ensures mean { ExpectedIsMean }
-{
-    0
-}
-
-// Trees fit in their nodes, stand where they are laid out, and are determined by their nodes.
-pub fn layouts_stand() -> u8
-    ensures small { TreesSmall }
-    ensures stands { LayoutStands }
-    ensures determined { StandsDetermined }
-{
-    0
-}
-
-// The verdict read from the held sets is the one to be shown.
-pub fn verdicts_stand() -> u8
-    ensures shown { VerdictShown }
-    ensures held { HeldMeans }
-    ensures sound { FittedSound }
-    ensures clear { ClearPollsNothing }
-{
-    0
-}
-
-// The whole promise has one outcome, and can be kept.
-pub fn promises_stand() -> u8
-    ensures determined { PromiseDetermined }
-    ensures possible { PromiseKept }
-{
-    0
 }

@@ -5,7 +5,7 @@ use Rattle.std.proofs.lemmas.List.{append-nil, drop_all, length-drop}
 use Rattle.std.proofs.lemmas.Bool.{cases_lt}
 use Rattle.codec.specs.declared.fault.CardFault.{CardFault}
 use Rattle.codec.specs.declared.fault.CardFault.TheVariants as card
-use Rattle.codec.specs.declared.read.Read.{Read}
+use Rattle.codec.specs.Reading.{Read}
 use Rattle.codec.specs.Number.{encode, Octets}
 use Rattle.codec.proofs.Fields.{ranged_sound, ranged_complete}
 use Rattle.codec.proofs.Spans.{Spans, join, split, span_end, span_none}

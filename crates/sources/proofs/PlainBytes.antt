@@ -1,6 +1,5 @@
 -- A plain log is taken exactly where each byte is an event.
 use Rattle.std.proofs.Common.{◌≡◌, ℕ, ◌+◌, ◌<◌, ◌≤◌, Bool, true, false, cond, ltb, List, [], ◌∷◌, length, get_or, drop, is_ok, Ok, Err, Decides, Result, refl}
-use Rattle.std.proofs.ByRecursion.{All-get_or}
 use Rattle.std.proofs.lemmas.List.{drop_more, drop_all}
 use Rattle.std.proofs.lemmas.Bool.{lt-ltb, ltb-true, both_ways}
 use Rattle.codec.specs.declared.fault.CardFault.{CardFault}
@@ -43,7 +42,3 @@ log_exact bytes = (taken_events 0 bytes, events_taken 0 bytes)
 
 pub log_exact_at : (bytes : List ℕ) (r : Result (Unit {0}) CardFault) → r ≡ log_from 0 bytes → Decides (is_ok r) (AllEvents bytes)
 log_exact_at bytes r e = rw e (log_exact bytes)
-
--- each byte of a log that is taken
-pub taken_get_or : (bytes : List ℕ) → AllEvents bytes → (k : ℕ) → k < length bytes → get_or bytes k 0 < 64
-taken_get_or bytes h k l = All-get_or (λ byte. byte < 64) bytes k 0 l h

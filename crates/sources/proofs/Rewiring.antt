@@ -1,6 +1,6 @@
 -- Each line of an event through a wiring, and what follows of whole events.
-use Rattle.std.proofs.Common.{◌≡◌, ℕ, zero, suc, ◌+◌, ◌<◌, ◌≤◌, Bool, true, false, cond, ltb, List, [], ◌∷◌, length, get_or, drop, is_ok, Ok, Err, Decides, Result, sym, refl, ap, ◌∙◌, ap₂, arith}
-use Rattle.std.proofs.lemmas.List.{drop_more, drop_all, get_or-map, length-map}
+use Rattle.std.proofs.Common.{◌≡◌, ℕ, zero, suc, ◌<◌, Bool, true, false, cond, ltb, List, [], ◌∷◌, length, get_or, is_ok, Ok, Err, Decides, Result, sym, refl, ap, ◌∙◌, ap₂, arith}
+use Rattle.std.proofs.lemmas.List.{get_or-map, length-map}
 use Rattle.std.proofs.lemmas.Bool.{lt-ltb, ltb-true, and_from, and_parts}
 use Rattle.events.specs.Sets.{has}
 use Rattle.events.proofs.SetLaws.{has_none, has-set_of, set_of_small, same_mask}
@@ -37,15 +37,6 @@ poll_through entries turned (event ∷ later) line on turn shown n l e t s =
     rw b (ap Ok (s ∙ (ap₂ turned_by g t ∙ sym (rewired-line entries turned event line l))))
 
 -- ---- whether a wiring fits
-
-pub entry_here : (entries : List ℕ) (k : ℕ) → k < length entries → ltb (get_or entries k 0) 6 ≡ true → all_lines (drop k entries) ≡ all_lines (drop (k + 1) entries)
-entry_here entries k h e = let d = drop_more entries k 0 h in rw (d, e)
-
-pub other_here : (entries : List ℕ) (k : ℕ) → k < length entries → ltb (get_or entries k 0) 6 ≡ false → all_lines (drop k entries) ≡ false
-other_here entries k h e = let d = drop_more entries k 0 h in rw (d, e)
-
-pub none_here : (entries : List ℕ) (k : ℕ) → length entries ≤ k → all_lines (drop k entries) ≡ true
-none_here entries k h = let d = drop_all k entries h in rw d
 
 lines_named : (entries : List ℕ) → all_lines entries ≡ true → (k : ℕ) → k < length entries → get_or entries k 0 < 6
 lines_named [] h k l = absurd (omega arith)
@@ -110,9 +101,6 @@ straight_is (suc (suc (suc (suc zero)))) h = refl
 straight_is (suc (suc (suc (suc (suc zero))))) h = refl
 straight_is (suc (suc (suc (suc (suc (suc k)))))) h = absurd (omega arith)
 
-pub straight_named : (k : ℕ) → k < 6 → get_or straight k 0 < 6
-straight_named k h = let e = straight_is k h in rw e h
-
 straight_line : (turned event k : ℕ) → k < 6 → has (rewired straight turned event) k ≡ turned_by (has event k) (has turned k)
 straight_line turned event k h = rewired-line straight turned event k h ∙ ap (λ (i : ℕ). turned_by (has event i) (has turned k)) (straight_is k h)
 
@@ -168,16 +156,11 @@ compose_fits upper t lower u f g = record {
 
 -- ---- what a making means
 
-module _ (entries : List ℕ) (turned : ℕ) (events : List ℕ) where
-  fits_from : Ok tt ≡ checked_wiring entries turned → wiring_fits entries turned ≡ true
-  fits_from h = sym (ap is_ok h ∙ ok_cond (wiring_fits entries turned))
-
-  unfit_from : (e : WiringRefusal) → Err e ≡ checked_wiring entries turned → wiring_fits entries turned ≡ false
-  unfit_from e h = sym (ap is_ok h ∙ ok_cond (wiring_fits entries turned))
-
-  pub taken_means : Ok tt ≡ checked_wiring entries turned → rewired_all entries turned events ≡ wired_events entries turned events
-  taken_means h = let e = fits_from h in rw e
-
-  pub refused_means : (e : WiringRefusal) → Err e ≡ checked_wiring entries turned → AllEvents events
-      → rewired_all straight 0 events ≡ wired_events entries turned events
-  refused_means e h small = let f = unfit_from e h in straight_events events small ∙ rw f
+pub fitted_means : (entries : List ℕ) (turned : ℕ) (events : List ℕ) → AllEvents events → (shown : List ℕ) (set : ℕ)
+    → (wiring_fits entries turned ≡ true → (shown ≡ entries) × (set ≡ turned)) → (wiring_fits entries turned ≡ false → (shown ≡ straight) × (set ≡ 0))
+    → rewired_all shown set events ≡ wired_events entries turned events
+fitted_means entries turned events small shown set fits other = go (wiring_fits entries turned) refl
+  where
+    go : (b : Bool) → wiring_fits entries turned ≡ b → rewired_all shown set events ≡ wired_events entries turned events
+    go true e = let s = fits e in rw (s.0, s.1, e)
+    go false e = let s = other e in rw (s.0, s.1, e) (straight_events events small)

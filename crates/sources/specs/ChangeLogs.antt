@@ -1,8 +1,8 @@
 -- What a change log is: pairs of numbers, each a count and the lines that are turned over before it.
-use Rattle.std.specs.Prelude.{◌≡◌, ℕ, zero, suc, ◌-◌, ◌<◌, ◌≤◌, cond, List, [], ◌∷◌, ◌++◌, length, replicate, Ok, Err, Result, bit_xor, nat_le, nat_lt}
+use Rattle.std.specs.Prelude.{◌≡◌, ℕ, zero, suc, ◌-◌, ◌<◌, ◌≤◌, cond, List, [], ◌∷◌, ◌++◌, length, replicate, true, is_ok, Some, None, Option, Ok, Err, Result, bit_xor, nat_le, nat_lt}
 use Rattle.std.specs.List.{AllByRecursion}
 use Rattle.codec.specs.declared.fault.CardFault.{CardFault}
-use Rattle.codec.specs.declared.read.Read.{Read}
+use Rattle.codec.specs.Reading.{Read}
 use Rattle.codec.specs.Field.{field_at}
 use Rattle.codec.specs.Number.{encode}
 use Rattle.codec.specs.Steps.{and_then}
@@ -78,17 +78,24 @@ pairs_or (Err fault) = []
 abbrev pub change_events : List ℕ → List ℕ
 change_events bytes = expand 0 (pairs_or (pairs_from bytes 0))
 
--- the run of the pair at a place: the event with its flipped lines turned over, and how often that comes; none where no pair can be read
-abbrev pub run_of : ℕ → ℕ → Result (Read Pair) CardFault → Run
-run_of place event (Ok pair) = record { next = pair.next; current = bit_xor event pair.value.flips; left = pair.value.count }
-run_of place event (Err fault) = record { next = place; current = event; left = 0 }
+-- the run of a pair behind an event: the event with its flipped lines turned over, and how often that comes; none where no pair can be read
+abbrev pub run_of : ℕ → Result (Read Pair) CardFault → Option Run
+run_of event (Ok pair) = Some (record { next = pair.next; current = bit_xor event pair.value.flips; left = pair.value.count })
+run_of event (Err fault) = None
 
 -- what a run leaves once its event came: one less, or the run of the next pair
-abbrev pub run_after : List ℕ → Run → Run
+abbrev pub run_after : List ℕ → Run → Option Run
 run_after bytes run =
-    cond (nat_lt 1 run.left) (record { next = run.next; current = run.current; left = run.left - 1 })
-    (run_of run.next run.current (pair_at bytes run.next))
+    cond (nat_lt 1 run.left) (Some (record { next = run.next; current = run.current; left = run.left - 1 }))
+    (run_of run.current (pair_at bytes run.next))
 
 -- what is left to play: the rest of the run, then the pairs behind it
-abbrev pub played_from : List ℕ → Run → List ℕ
-played_from bytes run = replicate run.left run.current ++ expand run.current (pairs_or (pairs_from bytes run.next))
+abbrev pub played_from : List ℕ → Option Run → List ℕ
+played_from bytes None = []
+played_from bytes (Some run) = replicate run.left run.current ++ expand run.current (pairs_or (pairs_from bytes run.next))
+
+-- a run that can be played: its event is one, it is still to come, and behind it stand whole pairs in range
+pub record IsPlayable (bytes : List ℕ) (run : Run) : Type 0 where
+  pub small : run.current < 64
+  pub some : 0 < run.left
+  pub whole : is_ok (pairs_from bytes run.next) ≡ true

@@ -1,13 +1,14 @@
 -- That what each source means is a list of events, numbers below 64: a source gives this proof with its list. Lemmas, and no definitions that a contract is read by.
-use Rattle.std.specs.Prelude.{◌≡◌, ℕ, zero, suc, ◌<◌, ◌≤◌, Bool, true, false, cond, ◌||◌, List, [], ◌∷◌, length, drop, replicate, Ok, Err, Result, bit_xor, nat_le, nat_lt, slice_index, refl}
+use Rattle.std.specs.Prelude.{◌≡◌, ℕ, zero, suc, ◌<◌, ◌≤◌, Bool, true, false, cond, ◌||◌, List, [], ◌∷◌, length, drop, replicate, Some, None, Option, Ok, Err, Result, bit_xor, nat_le, nat_lt, slice_index, refl}
 use Rattle.std.proofs.Common.{arith, ap}
 use Rattle.std.specs.List.{AllByRecursion}
+use Rattle.std.specs.Option.{ForSome}
 use Rattle.std.proofs.lemmas.Nat.{xor_lt}
 use Rattle.std.proofs.ByRecursion.{All-append, All-drop, All-from_get_or}
 use Rattle.std.proofs.lemmas.Bool.{ltb-false, or_parts}
 use Rattle.codec.specs.declared.fault.CardFault.{CardFault}
 use Rattle.codec.specs.declared.fault.CardFault.TheVariants as card
-use Rattle.codec.specs.declared.read.Read.{Read}
+use Rattle.codec.specs.Reading.{Read}
 use Rattle.codec.specs.Field.{field_at}
 use Rattle.codec.specs.Number.{number_at}
 use Rattle.codec.specs.Steps.{and_then}
@@ -17,7 +18,7 @@ use Rattle.sources.specs.declared.change.Run.{Run}
 use Rattle.events.proofs.SetLaws.{set_of_small}
 use Rattle.sources.specs.Wirings.{rewired, rewired_all}
 use Rattle.sources.specs.Waiting.{AllEvents}
-use Rattle.sources.specs.ChangeLogs.{expand, pair_at, pairs_within, pairs_from, pairs_or, played_from}
+use Rattle.sources.specs.ChangeLogs.{expand, pair_at, pairs_within, pairs_from, pairs_or, played_from, IsPlayable}
 
 -- ---- a plain log
 
@@ -88,10 +89,12 @@ expand_small (pair ∷ pairs) event h t =
     All-append (λ e. e < 64) _ _ (same_small pair.count _ next) (expand_small pairs (bit_xor event pair.flips) next t.1)
 
 -- what is left of a change log
-pub change_small : (f : List ℕ) (run : Run) → run.current < 64 → AllEvents (played_from f run)
-change_small f run h =
-    All-append (λ e. e < 64) _ _ (same_small run.left run.current h)
-    (expand_small (pairs_or (pairs_from f run.next)) run.current h (pairs_small (length f) f run.next))
+pub change_small : (f : List ℕ) (run : Option Run) → ForSome run (IsPlayable f) → AllEvents (played_from f run)
+change_small f None h = tt
+change_small f (Some run) h =
+    let p = h run refl in
+    All-append (λ e. e < 64) _ _ (same_small run.left run.current p.small)
+    (expand_small (pairs_or (pairs_from f run.next)) run.current p.small (pairs_small (length f) f run.next))
 
 -- ---- a wiring
 

@@ -1,5 +1,6 @@
 -- What a wiring is: where each of the six lines comes from, and which are turned over.
 use Rattle.std.specs.Prelude.{◌≡◌, ℕ, ◌<◌, Bool, true, false, cond, ◌&&◌, List, [], ◌∷◌, map, length, Ok, Err, Result, nat_lt, slice_index}
+use Rattle.std.specs.List.{list_all}
 use Rattle.events.specs.Sets.{has, set_of}
 use Rattle.sources.specs.declared.wiring.WiringRefusal.{WiringRefusal}
 use Rattle.sources.specs.declared.wiring.WiringRefusal.TheVariants.{OutOfRange}
@@ -34,8 +35,7 @@ pub record IsWiring (entries : List ℕ) (turned : ℕ) : Type 0 where
 
 -- whether each entry names a line
 abbrev pub all_lines : List ℕ → Bool
-all_lines [] = true
-all_lines (entry ∷ entries) = nat_lt entry 6 && all_lines entries
+all_lines entries = list_all (λ entry. nat_lt entry 6) entries
 
 -- the same of six entries, as a test
 abbrev pub wiring_fits : List ℕ → ℕ → Bool

@@ -1,15 +1,16 @@
 // The change log: pairs of numbers, a count and the lines that are turned over before it. It is played without being written out.
-ghost use Rattle.std.specs.Prelude.{◌≡◌, ◌<◌, ◌≤◌, true, List, length, is_ok, IfOk, IfErr, Decides};
+ghost use Rattle.std.specs.Prelude.{◌≡◌, ◌<◌, ◌≤◌, List, length, is_ok, IfOk, IfErr, Decides};
 ghost use Rattle.std.specs.List.{AllByRecursion};
+ghost use Rattle.std.specs.Option.{ForSome};
+ghost use Rattle.codec.specs.Reading.{read_to};
 ghost use Rattle.sources.specs.ChangeLogs.{change_events, checked_pairs, expand, pair_at, pairs_from, played_from, run_of};
-ghost use Rattle.sources.specs.ChangeLogs.{InRange, IsChangeLog, LeftmostFault, encode_pairs, run_after};
+ghost use Rattle.sources.specs.ChangeLogs.{InRange, IsChangeLog, LeftmostFault, IsPlayable, encode_pairs, run_after};
 ghost use Rattle.sources.specs.Small.{change_small};
 ghost use Rattle.sources.specs.Waiting.{first_of};
 
 use crate::source::{LineSource, SourceRefusal, poll_event};
 use codec::fault::CardFault;
-use codec::field::read_field;
-use codec::read::Read;
+use codec::reader::Reader;
 
 // A pair counts up to this many events.
 const MOST_COUNT: u32 = 16383;
@@ -24,20 +25,15 @@ pub struct Pair {
     pub flips: u8,
 }
 
-// The pair that begins at `at`.
-fn read_pair(bytes: &[u8], at: usize) -> Result<Read<Pair>, CardFault>
-    ensures value { result ≡ pair_at bytes.now at }
-    ensures within { IfOk result (λ n. (at < n.next) × (n.next ≤ length bytes.now)) }
+// Reads the pair that begins at the place.
+fn read_pair(reader: &mut Reader) -> Result<Pair, CardFault>
+    ensures value { read_to result reader.new.at ≡ pair_at reader.old.bytes.now reader.old.at }
+    ensures kept { reader.new.bytes ≡ reader.old.bytes }
+    ensures within { IfOk result (λ _. (reader.old.at < reader.new.at) × (reader.new.at ≤ length reader.old.bytes.now)) }
 {
-    let count = read_field(bytes, at, 1, MOST_COUNT)?;
-    let flips = read_field(bytes, count.next, 0, ALL_LINES)?;
-    Ok(Read {
-        value: Pair {
-            count: count.value as u16,
-            flips: flips.value as u8,
-        },
-        next: flips.next,
-    })
+    let count = reader.read_field(1, MOST_COUNT)? as u16;
+    let flips = reader.read_field(0, ALL_LINES)? as u8;
+    Ok(Pair { count, flips })
 }
 
 // Whether the bytes are those of pairs in range; else the leftmost fault.
@@ -46,9 +42,9 @@ pub fn check_changes(bytes: &[u8]) -> Result<(), CardFault>
     ensures exact { Decides (is_ok result) (IsChangeLog bytes.now) }
     ensures leftmost { IfErr result (LeftmostFault bytes.now) }
 {
-    let mut at = 0;
-    while at < bytes.len() {
-        at = read_pair(bytes, at)?.next;
+    let mut reader = Reader { bytes, at: 0 };
+    while reader.at < bytes.len() {
+        read_pair(&mut reader)?;
     }
     Ok(())
 }
@@ -62,52 +58,46 @@ struct Run {
 }
 
 // The run of the pair at `at`, behind an event; none where there is no pair.
-fn next_run(bytes: &[u8], at: usize, event: u8) -> Run
-    ensures { result ≡ run_of at event (pair_at bytes.now at) }
+fn next_run(bytes: &[u8], at: usize, event: u8) -> Option<Run>
+    ensures { result ≡ run_of event (pair_at bytes.now at) }
 {
-    match read_pair(bytes, at) {
-        Ok(pair) => Run {
-            next: pair.next,
-            current: event ^ pair.value.flips,
-            left: pair.value.count,
-        },
-        Err(_) => Run {
-            next: at,
-            current: event,
-            left: 0,
-        },
-    }
+    let mut reader = Reader { bytes, at };
+    let Ok(pair) = read_pair(&mut reader) else {
+        return None;
+    };
+    Some(Run {
+        next: reader.at,
+        current: event ^ pair.flips,
+        left: pair.count,
+    })
 }
 
 // The run that a log begins with: that of its first pair, behind the event with every line off.
-fn first_run(bytes: &[u8]) -> Run
-    ensures { result ≡ run_of 0 0 (pair_at bytes.now 0) }
+fn first_run(bytes: &[u8]) -> Option<Run>
+    ensures { result ≡ run_of 0 (pair_at bytes.now 0) }
 {
     next_run(bytes, 0, 0)
 }
 
 // What a run leaves once its event came: one less, or the run of the next pair.
-fn run_after(bytes: &[u8], run: Run) -> Run
+fn run_after(bytes: &[u8], run: Run) -> Option<Run>
     ensures { result ≡ run_after bytes.now run }
 {
     if run.left > 1 {
-        return Run {
-            next: run.next,
-            current: run.current,
+        return Some(Run {
             left: run.left - 1,
-        };
+            ..run
+        });
     }
     next_run(bytes, run.next, run.current)
 }
 
-// A change log, and how far it was played: the run whose event comes first, and behind it the pairs from its place on.
+// A change log, and how far it was played: the run whose event comes first, and behind it the pairs from its place on. At its end there is no run.
 #[derive(Drop)]
 pub struct ChangeLog<'a> {
     bytes: &'a [u8],
-    run: Run,
-    ghost small: { run.current < 64 },
-    ghost whole: { is_ok (pairs_from bytes.now run.next) ≡ true },
-    ghost ready: { run.left ≡ 0 → length bytes.now ≤ run.next },
+    run: Option<Run>,
+    ghost playable: { ForSome run (IsPlayable bytes.now) },
 }
 
 impl<'a> ChangeLog<'a> {
@@ -121,14 +111,7 @@ impl<'a> ChangeLog<'a> {
                 bytes,
                 run: first_run(bytes),
             },
-            Err(_) => ChangeLog {
-                bytes: &[],
-                run: Run {
-                    next: 0,
-                    current: 0,
-                    left: 0,
-                },
-            },
+            Err(_) => ChangeLog { bytes, run: None },
         }
     }
 
@@ -136,17 +119,15 @@ impl<'a> ChangeLog<'a> {
     fn first(&self) -> Option<u8>
         ensures { result ≡ first_of (played_from self.now.bytes.now self.now.run) }
     {
-        if self.run.left == 0 {
-            return None;
-        }
-        Some(self.run.current)
+        let run = self.run?;
+        Some(run.current)
     }
 }
 
 impl LineSource for ChangeLog<'_> {
     ghost events = { λ s. played_from s.bytes.now s.run };
 
-    ghost small = { λ s. change_small s.bytes.now s.run s.small };
+    ghost small = { λ s. change_small s.bytes.now s.run s.playable };
 
     fn waiting(&self) -> bool {
         self.first().is_some()
@@ -157,10 +138,10 @@ impl LineSource for ChangeLog<'_> {
     }
 
     fn drop_first(&mut self) -> Result<(), SourceRefusal> {
-        if self.run.left == 0 {
+        let Some(run) = self.run else {
             return Err(SourceRefusal::NothingWaiting);
-        }
-        self.run = run_after(self.bytes, self.run);
+        };
+        self.run = run_after(self.bytes, run);
         Ok(())
     }
 }

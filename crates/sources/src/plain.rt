@@ -1,23 +1,13 @@
 // The plain log: one byte an event.
-ghost use Rattle.std.specs.Prelude.{◌≡◌, ℕ, ◌<◌, length, drop, is_ok, Decides, nat_lt, slice_index};
+ghost use Rattle.std.specs.Prelude.{◌≡◌, ℕ, ◌+◌, ◌<◌, length, drop, is_ok, Decides, slice_index};
 ghost use Rattle.sources.specs.PlainLogs.{checked_log, plain_events};
 ghost use Rattle.sources.specs.Small.{plain_small};
 ghost use Rattle.sources.specs.Waiting.{AllEvents, first_of};
 
-use crate::source::{LineSource, SourceRefusal, poll_event};
+use crate::source::{LineSource, SourceRefusal, is_event, poll_event};
 use codec::fault::CardFault;
 
-// How many events there are: each of six lines on or off.
-const EVENTS: u8 = 64;
-
-// Whether a byte is an event.
-fn is_event(byte: u8) -> bool
-    ensures { result ≡ nat_lt byte 64 }
-{
-    byte < EVENTS
-}
-
-// Whether each byte is an event; else the place of the first that is none.
+// Whether each byte is an event; else the place of the first that is none. `position` with a `match` on its answer would be no shorter.
 pub fn check_log(bytes: &[u8]) -> Result<(), CardFault>
     ensures fault { result ≡ checked_log bytes.now }
     ensures exact { Decides (is_ok result) (AllEvents bytes.now) }
@@ -56,10 +46,16 @@ impl<'a> PlainLog<'a> {
     fn first(&self) -> Option<u8>
         ensures { result ≡ first_of (drop self.now.place self.now.bytes.now) }
     {
-        if self.place < self.bytes.len() {
-            return Some(self.bytes[self.place]);
-        }
-        None
+        self.bytes.get(self.place).copied()
+    }
+
+    // Lets the byte at the place go.
+    fn advance(&mut self)
+        requires { self.old.place < length self.old.bytes.now }
+        ensures place { self.new.place ≡ self.old.place + 1 }
+        ensures bytes { self.new.bytes ≡ self.old.bytes }
+    {
+        self.place += 1;
     }
 }
 
@@ -80,7 +76,7 @@ impl LineSource for PlainLog<'_> {
         if self.place >= self.bytes.len() {
             return Err(SourceRefusal::NothingWaiting);
         }
-        self.place += 1;
+        self.advance();
         Ok(())
     }
 }

@@ -1,5 +1,5 @@
 // A line source: a list of events still to come, seen through polls of single lines.
-ghost use Rattle.std.specs.Prelude.{◌≡◌, ℕ, ◌-◌, ◌^◌, ◌<◌, min, List, [], length, bit_or};
+ghost use Rattle.std.specs.Prelude.{◌≡◌, ℕ, ◌-◌, ◌^◌, min, cond, List, [], length, nat_lt, bit_or};
 ghost use Rattle.events.specs.Sets.{has};
 ghost use Rattle.sources.specs.Waiting.{AllEvents, any_waiting, dropped, first_of, later_of, or_nothing, polled, source_number};
 
@@ -8,8 +8,18 @@ use events::contains;
 // How many lines there are.
 pub(crate) const LINES: u8 = 6;
 
+// How many events there are: each of six lines on or off.
+const EVENTS: u8 = 64;
+
+// Whether a number is an event.
+pub fn is_event(number: u8) -> bool
+    ensures { result ≡ nat_lt number 64 }
+{
+    number < EVENTS
+}
+
 // Why a source refuses a call.
-#[derive(Clone, Copy)]
+#[derive(Clone, Copy, PartialEq, Eq)]
 pub enum SourceRefusal {
     // the poll is of a line that there is not
     NoSuchLine,
@@ -18,10 +28,11 @@ pub enum SourceRefusal {
 }
 
 impl SourceRefusal {
-    // The number that the refusal is told by.
+    // The number that the refusal is told by. A method and no `From`: `u8::from` would not say which number.
     pub fn number(self) -> u8
         ensures { result ≡ source_number self }
     {
+        // A match and no discriminants: a number that is told for two cases is to be refused by a proof, and discriminants cannot be equal at all.
         match self {
             SourceRefusal::NoSuchLine => 51,
             SourceRefusal::NothingWaiting => 52,
@@ -71,12 +82,15 @@ pub(crate) fn poll_event(first: Option<u8>, line: u8) -> Result<bool, SourceRefu
     }
 }
 
-// An event with one of its lines on.
-fn with_line(event: u8, line: u8) -> u8
-    requires { line < 6 }
-    ensures { result ≡ bit_or event (2 ^ line) }
+// An event with one of its lines on. There is no line past 5: there the event stays as it is.
+pub(crate) fn with_line(event: u8, line: u8) -> u8
+    ensures { result ≡ cond (nat_lt line 6) (bit_or event (2 ^ line)) event }
 {
-    event | 1 << line
+    if line < LINES {
+        event | 1 << line
+    } else {
+        event
+    }
 }
 
 // The first event of any source, by one poll of each line.

@@ -1,7 +1,7 @@
 // A wiring over any source: each line is one of the lines below, turned over or not.
-ghost use Rattle.std.specs.Prelude.{◌≡◌, ℕ, ◌<◌, is_ok, Decides, nat_lt, slice_index};
+ghost use Rattle.std.specs.Prelude.{◌≡◌, ℕ, ◌<◌, true, false, is_ok, Decides, nat_lt, slice_index};
 ghost use Rattle.sources.specs.Small.{rewired_small};
-ghost use Rattle.sources.specs.Wirings.{IsWiring, all_lines, checked_wiring, rewired_all, turned_by, wired_events, wiring_fits, wiring_number};
+ghost use Rattle.sources.specs.Wirings.{IsWiring, all_lines, checked_wiring, rewired_all, straight, turned_by, wired_events, wiring_fits, wiring_number};
 
 use crate::source::{LINES, LineSource, SourceRefusal, is_on};
 
@@ -11,21 +11,19 @@ const SETS: u8 = 64;
 // The entries of the wiring that changes nothing.
 const STRAIGHT: [u8; 6] = [0, 1, 2, 3, 4, 5];
 
-// Why a wiring is refused.
-#[derive(Clone, Copy)]
+// Why a wiring is refused, with the number that it is told by.
+#[derive(Clone, Copy, PartialEq, Eq)]
 pub enum WiringRefusal {
     // an entry is no line, or the turned set has a member that is none
-    OutOfRange,
+    OutOfRange = 53,
 }
 
 impl WiringRefusal {
-    // The number that the refusal is told by.
+    // The number that the refusal is told by. A method and no `From`: `u8::from` would not say which number.
     pub fn number(self) -> u8
         ensures { result ≡ wiring_number self }
     {
-        match self {
-            WiringRefusal::OutOfRange => 53,
-        }
+        self as u8
     }
 }
 
@@ -47,12 +45,7 @@ fn is_lines(set: u8) -> bool
 fn are_lines(entries: [u8; 6]) -> bool
     ensures { result ≡ all_lines entries }
 {
-    for line in entries {
-        if !is_line(line) {
-            return false;
-        }
-    }
-    true
+    entries.iter().all(|entry| is_line(*entry))
 }
 
 // Whether each entry names a line and the turned set has lines alone.
@@ -71,6 +64,18 @@ pub fn check_wiring(entries: [u8; 6], turned: u8) -> Result<(), WiringRefusal>
         return Ok(());
     }
     Err(WiringRefusal::OutOfRange)
+}
+
+// The entries and the turned set of a wiring; else those of the wiring that changes nothing.
+fn fitted(entries: [u8; 6], turned: u8) -> ([u8; 6], u8)
+    ensures fits { wiring_fits entries turned ≡ true → (result.0 ≡ entries) × (result.1 ≡ turned) }
+    ensures other { wiring_fits entries turned ≡ false → (result.0 ≡ straight) × (result.1 ≡ 0) }
+{
+    if is_fitting(entries, turned) {
+        (entries, turned)
+    } else {
+        (STRAIGHT, 0)
+    }
 }
 
 // A line as a wiring shows it.
@@ -95,17 +100,11 @@ impl<S: LineSource> Wiring<S> {
         ensures kept { result.below ≡ below }
         ensures means { rewired_all result.entries result.turned (S.LineSource.events result.below) ≡ wired_events entries turned (S.LineSource.events below) }
     {
-        match check_wiring(entries, turned) {
-            Ok(()) => Wiring {
-                below,
-                entries,
-                turned,
-            },
-            Err(_) => Wiring {
-                below,
-                entries: STRAIGHT,
-                turned: 0,
-            },
+        let (entries, turned) = fitted(entries, turned);
+        Wiring {
+            below,
+            entries,
+            turned,
         }
     }
 }

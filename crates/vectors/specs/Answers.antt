@@ -1,17 +1,11 @@
 -- The reader's answers, in the words of the files of expected answers.
 use Rattle.std.specs.Prelude.{ℕ, List, ◌++◌, Ok, Err, codes, decimal, Result}
-use Rattle.codec.specs.declared.fault.Layer.{Layer}
-use Rattle.codec.specs.declared.fault.Layer.TheVariants as layer
 use Rattle.codec.specs.declared.fault.Report.{Report}
+use Rattle.codec.specs.Text.{layer_text}
 use Rattle.rulefile.specs.declared.fault.Refusal.{Refusal}
 use Rattle.rulefile.specs.declared.fault.Refusal.TheVariants as refusal
 use Rattle.rulefile.specs.declared.record.Counts.{Counts}
 use Rattle.rulefile.specs.Fault.{file_report}
-
-abbrev pub layer_text : Layer → List ℕ
-layer_text layer.Number = codes "number"
-layer_text layer.Card = codes "card"
-layer_text layer.File = codes "file"
 
 -- refused 11 0 file
 abbrev pub report_text : Report → List ℕ

@@ -12,45 +12,45 @@ struct Run {
     times: u64,
 }
 
-// Writes a run, where there is one.
-fn push_run(text: &mut String, run: Run) -> Result<(), fmt::Error> {
-    if run.times == 0 {
-        return Ok(());
+// As in `5*3`.
+impl fmt::Display for Run {
+    fn fmt<W: fmt::Write>(&self, f: &mut fmt::Formatter<W>) -> fmt::Result {
+        write!(f, "{}*{}", self.event, self.times)
     }
-    write!(text, " {}*{}", run.event, run.times)?;
-    Ok(())
 }
 
 // Writes the longest runs of equal events of a source, and plays it to its end.
-fn push_runs<S: LineSource>(text: &mut String, source: &mut S) -> Result<(), fmt::Error> {
-    let mut run = Run { event: 0, times: 0 };
+fn push_runs<S: LineSource>(text: &mut String, source: &mut S) -> fmt::Result {
+    let mut last: Option<Run> = None;
     while let Ok(event) = first_event(&*source) {
         let _ = (*source).drop_first();
-        if event == run.event {
-            run.times = run.times.saturating_add(1);
-        } else {
-            push_run(text, run)?;
-            run = Run { event, times: 1 };
+        match &mut last {
+            Some(run) if run.event == event => run.times = run.times.saturating_add(1),
+            _ => {
+                if let Some(run) = last.replace(Run { event, times: 1 }) {
+                    write!(text, " {run}")?;
+                }
+            }
         }
     }
-    push_run(text, run)
+    if let Some(run) = last {
+        write!(text, " {run}")?;
+    }
+    Ok(())
 }
 
 // `ok TOTAL` and the runs.
 fn good_answer(heap: Global, bytes: &[u8]) -> Result<String, fmt::Error> {
-    let mut counted = ChangeLog::over(bytes);
-    let total = drain(&mut counted);
-    let mut text = String::new(heap);
-    write!(text, "ok {total}")?;
-    let mut played = ChangeLog::over(bytes);
-    push_runs(&mut text, &mut played)?;
+    let total = drain(&mut ChangeLog::over(bytes));
+    let mut text = format!(in heap; "ok {total}")?;
+    push_runs(&mut text, &mut ChangeLog::over(bytes))?;
     Ok(text)
 }
 
 // `ok TOTAL EVENT*TIMES ..`, or `refused NUMBER PLACE LAYER`.
-pub(crate) fn change_answer(heap: Global, bytes: &[u8]) -> Option<String> {
+pub(crate) fn change_answer(heap: Global, bytes: &[u8]) -> Result<String, fmt::Error> {
     match check_changes(bytes) {
-        Ok(()) => good_answer(heap, bytes).ok(),
-        Err(fault) => fault_answer(heap, fault.report()).ok(),
+        Ok(()) => good_answer(heap, bytes),
+        Err(fault) => Ok(fault_answer(heap, fault.report())?),
     }
 }

@@ -2,53 +2,40 @@
 #![tactic(auto)]
 
 mod changes;
-mod hex;
+mod digits;
 mod reader;
 mod trees;
 
 use changes::change_answer;
+use digits::bytes_of;
 use reader::reader_answer;
 use std::{fs, io};
 use trees::tree_answer;
 
-// Which file of expected answers: what its lines hold, and how they are run.
-#[derive(Clone, Copy)]
-enum Kind {
-    Reader,
-    Changes,
-    Trees,
-}
-
-// Whether the last fields of a line are the answer to those before them.
-fn agrees(rt: &HostRuntime, kind: Kind, line: &str) -> Option<bool> {
+// Whether the fields of a line behind its first are those that a test wants of the bytes in the first.
+fn agrees<F: Fn(&[u8], &str) -> Option<bool>>(
+    rt: &HostRuntime,
+    line: &str,
+    test: &F,
+) -> Option<bool>
+    requires { F.IsAlwaysCallable test.now }
+{
     let (file, rest) = line.split_once('\t')?;
-    let bytes = hex::bytes_of(rt.alloc(), file)?;
-    match kind {
-        Kind::Reader => {
-            let answer = reader_answer(rt.alloc(), bytes.as_slice()).ok()?;
-            Some(answer.as_str() == rest)
-        }
-        Kind::Changes => {
-            let answer = change_answer(rt.alloc(), bytes.as_slice())?;
-            Some(answer.as_str() == rest)
-        }
-        Kind::Trees => {
-            let (measure, wanted) = rest.split_once('\t')?;
-            let answer = tree_answer(rt.alloc(), bytes.as_slice(), measure)?;
-            Some(answer.as_str() == wanted)
-        }
-    }
+    let bytes = bytes_of(rt.alloc(), file)?;
+    (*test)(bytes.as_slice(), rest)
 }
 
 // Prints each line that differs, and how many agree and differ.
-fn run(rt: &HostRuntime, file: &str, kind: Kind) -> io::Result<()> {
+fn run<F: Fn(&[u8], &str) -> Option<bool>>(rt: &HostRuntime, file: &str, test: F) -> io::Result<()>
+    requires { F.IsAlwaysCallable test }
+{
     let Ok(text) = fs::read_to_string(rt, file) else {
         return Ok(());
     };
     let mut agree = 0u32;
     let mut differ = 0u32;
     for line in text.lines() {
-        if agrees(rt, kind, line) == Some(true) {
+        if agrees(rt, line, &test) == Some(true) {
             agree = agree.saturating_add(1);
         } else {
             differ = differ.saturating_add(1);
@@ -59,7 +46,15 @@ fn run(rt: &HostRuntime, file: &str, kind: Kind) -> io::Result<()> {
 }
 
 fn main(rt: HostRuntime) -> io::Result<()> {
-    run(&rt, "reader.tsv", Kind::Reader)?;
-    run(&rt, "changelog.tsv", Kind::Changes)?;
-    run(&rt, "trees.tsv", Kind::Trees)
+    let heap = rt.alloc();
+    run(&rt, "reader.tsv", |bytes, wanted| {
+        Some(reader_answer(heap, bytes).ok()?.as_str() == wanted)
+    })?;
+    run(&rt, "changelog.tsv", |bytes, wanted| {
+        Some(change_answer(heap, bytes).ok()?.as_str() == wanted)
+    })?;
+    run(&rt, "trees.tsv", |bytes, rest| {
+        let (measure, wanted) = rest.split_once('\t')?;
+        Some(tree_answer(heap, bytes, measure)?.as_str() == wanted)
+    })
 }

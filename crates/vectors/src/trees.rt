@@ -1,78 +1,34 @@
 // What fitting leaves of a rule, in the words of the expected answers.
-use crate::reader::{NO_MOVE, NO_STATE};
-use fitting::fit::fit;
+use fitting::fit::{NODES, fit};
 use fitting::{Expected, Measure, Worst};
+use itertools::Itertools;
 use rulefile::check::check_rule;
+use rulefile::draft::Draft;
 use rulefile::draft::make::make_draft;
 use rulefile::record::StateRecord;
 use rules::{Move, Node};
 use std::alloc::Global;
-use std::fmt;
 
-// How many nodes are lent.
-const NODES: usize = 4064;
-
-// Writes numbers with single spaces between them.
-fn push_numbers(text: &mut String, numbers: &[u64]) -> Result<(), fmt::Error> {
-    let mut space = "";
-    for n in numbers {
-        write!(text, "{space}{n}")?;
-        space = " ";
-    }
-    Ok(())
-}
-
-// Writes places with single spaces between them.
-fn push_places(text: &mut String, places: &[u16]) -> Result<(), fmt::Error> {
-    let mut space = "";
-    for p in places {
-        write!(text, "{space}{p}")?;
-        space = " ";
-    }
-    Ok(())
-}
-
-// Writes nodes with single spaces between them: a fork as `LINE?ON:OFF`, and a leaf as its set.
-fn push_nodes(text: &mut String, nodes: &[Node]) -> Result<(), fmt::Error> {
-    let mut space = "";
-    for node in nodes {
-        match *node {
-            Node::Fork { line, on, off } => write!(text, "{space}{line}?{on}:{off}")?,
-            Node::Leaf { set } => write!(text, "{space}{set}")?,
-        }
-        space = " ";
-    }
-    Ok(())
-}
-
-// Costs, tops and nodes of a draft that is fitted by a measure, with tabs between them.
-fn fitted_answer<'a, M: Measure>(
-    heap: Global,
-    measure: &M,
-    file: &'a [u8],
-    states: &'a [StateRecord],
-    moves: &'a [Move],
-) -> Option<String> {
-    let draft = make_draft(file, states, moves);
+// Costs, tops and nodes of a draft that is fitted by a measure, with tabs between them and single spaces within.
+fn fitted_answer<M: Measure>(heap: Global, measure: &M, draft: &Draft) -> Option<String> {
     let mut nodes = [Node::Leaf { set: 0 }; NODES];
-    let fitted = fit(measure, &draft, &mut nodes).ok()?;
-    let mut text = String::new(heap);
-    push_numbers(&mut text, fitted.costs.get(..fitted.states)?).ok()?;
-    write!(text, "\t").ok()?;
-    push_places(&mut text, fitted.tops.get(..fitted.states)?).ok()?;
-    write!(text, "\t").ok()?;
-    push_nodes(&mut text, nodes.get(..fitted.behind)?).ok()?;
-    Some(text)
+    let fitted = fit(measure, draft, &mut nodes).ok()?;
+    let trees = fitted.trees.get(..fitted.states)?;
+    let costs = trees.iter().map(|tree| tree.cost).join(heap, " ").ok()?;
+    let tops = trees.iter().map(|tree| tree.top).join(heap, " ").ok()?;
+    let nodes = nodes.get(..fitted.behind)?.iter().join(heap, " ").ok()?;
+    format!(in heap; "{costs}\t{tops}\t{nodes}").ok()
 }
 
-// `COSTS`, `TOPS` and `NODES` of a rule, by the measure of this name.
+// `COSTS`, `TOPS` and `NODES` of a rule, by the measure of this name. A match: the name is a word of the file, and each measure is a type of its own.
 pub(crate) fn tree_answer(heap: Global, file: &[u8], measure: &str) -> Option<String> {
-    let mut states = [NO_STATE; 32];
-    let mut moves = [NO_MOVE; 1024];
+    let mut states = [StateRecord::default(); 32];
+    let mut moves = [Move::default(); 1024];
     let _ = check_rule(file, &mut states, &mut moves).ok()?;
+    let draft = make_draft(file, &states, &moves);
     match measure {
-        "expected" => fitted_answer(heap, &Expected, file, &states, &moves),
-        "worst" => fitted_answer(heap, &Worst, file, &states, &moves),
+        "expected" => fitted_answer(heap, &Expected, &draft),
+        "worst" => fitted_answer(heap, &Worst, &draft),
         _ => None,
     }
 }

@@ -1,5 +1,5 @@
 -- A plan newly armed stands after no event, and holds states of its rule.
-use Rattle.std.proofs.Common.{◌≡◌, ℕ, ◌^◌, ◌<◌, true, ◌↔◌, length, sym, ap, ◌∙◌, subst, arith, pow_mono}
+use Rattle.std.proofs.Common.{◌≡◌, ℕ, ◌^◌, ◌<◌, true, ◌↔◌, length, sym, ap, ◌∙◌, subst, ap₂, arith, pow_mono}
 use Rattle.events.specs.Sets.{has, ◌∈◌}
 use Rattle.events.proofs.SetLaws.{set_of_small}
 use Rattle.rules.specs.declared.Snapshot.{Snapshot}
@@ -23,46 +23,43 @@ module _ (plan : Plan) where
   well : WellFormed (plan_rule plan)
   well = draft_well plan.draft
 
-  live_there : (q : ℕ) → (q ∈ plan.live) ↔ Live (plan_rule plan) q
+  live_there : (q : ℕ) → (q ∈ plan.sets.live) ↔ Live (plan_rule plan) q
   live_there q = subst (λ (n : ℕ). (q ∈ n) ↔ Live (plan_rule plan) q) (sym plan.live_is) (live_right (plan_rule plan) well q)
 
-  safe_there : (q : ℕ) → (q ∈ plan.safe) ↔ Safe (plan_rule plan) q
+  safe_there : (q : ℕ) → (q ∈ plan.sets.safe) ↔ Safe (plan_rule plan) q
   safe_there q = subst (λ (n : ℕ). (q ∈ n) ↔ Safe (plan_rule plan) q) (sym plan.safe_is) (safe_right (plan_rule plan) well q)
 
-  starts_there : (q : ℕ) → (q ∈ plan.starts) ↔ Starts (plan_rule plan) q
+  starts_there : (q : ℕ) → (q ∈ plan.sets.starts) ↔ Starts (plan_rule plan) q
   starts_there q = subst (λ (n : ℕ). (q ∈ n) ↔ Starts (plan_rule plan) q) (sym plan.starts_are) (start_right (plan_rule plan) q)
 
   start_small : start_states (plan_rule plan).states < 2 ^ 32
   unfolding start_states
   start_small = omega (arith, set_of_small (length (plan_rule plan).states) (λ q. (lib.ListN.get_or (plan_rule plan).states q (record { start = mathlib.Core.Bool.false; accepting = mathlib.Core.Bool.false })).start), pow_mono well.few_states)
 
-  -- the plan's own sets
-  abbrev plan_sets : Sets
-  plan_sets = record { live = plan.live; safe = plan.safe; starts = plan.starts; release = plan.release }
-
-  plan_begun : Begun (plan_rule plan) (start_by plan_sets)
-  plan_begun = begun (plan_rule plan) well plan.live plan.safe plan.starts plan.release live_there safe_there starts_there
+  plan_begun : Begun (plan_rule plan) (start_by plan.sets)
+  plan_begun = begun (plan_rule plan) well plan.sets.live plan.sets.safe plan.sets.starts plan.sets.release live_there safe_there starts_there
       (subst (λ (n : ℕ). n < 2 ^ 32) (sym plan.starts_are) start_small) (plan_release plan)
 
-  module _ (sets : Sets) (live_is : sets.live ≡ plan.live) (safe_is : sets.safe ≡ plan.safe) (starts_are : sets.starts ≡ plan.starts) (release_is : sets.release ≡ plan.release)
-      (held : ℕ) (held-is : held ≡ start_by sets) where
-    same : sets ≡ plan_sets
-    same = λ i. record { live = live_is i; safe = safe_is i; starts = starts_are i; release = release_is i }
+  -- what is begun with, from the plan's sets
+  module _ (sets : Sets) (held release : ℕ) (s : Snapshot) (sets_are : sets ≡ plan.sets)
+      (held-is : held ≡ start_by sets) (same_release : release ≡ plan.sets.release) (begins : s ≡ begun_with release held) where
+    begun_there : s ≡ begun_with plan.sets.release (start_by plan.sets)
+    begun_there =
+        begins ∙ ap₂ begun_with same_release (held-is ∙ ap start_by sets_are)
 
-    held_there : held ≡ start_by plan_sets
-    held_there = held-is ∙ ap start_by same
-
-    pub armed_there : (s : Snapshot) → s ≡ begun_with sets.release held → ArmedOn plan s
-    armed_there s is =
+    -- it stands after no event
+    pub armed_there : ArmedOn plan s
+    unfolding ArmedOn
+    armed_there =
         let (raw, start, settled) = plan_begun in
-        subst (ArmedOn plan) (sym (is ∙ ap (λ (r : ℕ). begun_with r held) release_is))
-        (after_armed (plan_rule plan) (plan_trees plan) raw held (reads_by plan.release 0 held) start
-        (subst (Rattle.rules.specs.watch.Holding.Settled (plan_rule plan) raw) (sym held_there) settled)
-        (reads_by_lem (plan_rule plan) plan.release (plan_release plan) 0 held))
+        subst (ArmedOn plan) (sym begun_there)
+        (after_armed (plan_rule plan) (plan_trees plan) raw (start_by plan.sets) (reads_by plan.sets.release 0 (start_by plan.sets)) start settled
+        (reads_by_lem (plan_rule plan) plan.sets.release (plan_release plan) 0 (start_by plan.sets)))
 
-    pub armed_within : (s : Snapshot) → s ≡ begun_with sets.release held → (q : ℕ) → has s.held q ≡ true → q < length (plan_rule plan).states
-    armed_within s is = subst (λ (h : ℕ). (q : ℕ) → has h q ≡ true → q < length (plan_rule plan).states) (sym (ap (λ (t : Snapshot). t.held) is ∙ held_there))
-        (lives_within plan (start_by plan_sets)
-        (begun_lives (plan_rule plan) well plan.live plan.safe plan.starts plan.release live_there safe_there starts_there
+    -- and holds states of the rule
+    pub armed_within : (q : ℕ) → has s.held q ≡ true → q < length (plan_rule plan).states
+    armed_within = subst (λ (h : ℕ). (q : ℕ) → has h q ≡ true → q < length (plan_rule plan).states) (sym (ap (λ (t : Snapshot). t.held) begun_there))
+        (lives_within plan (start_by plan.sets)
+        (begun_lives (plan_rule plan) well plan.sets.live plan.sets.safe plan.sets.starts plan.sets.release live_there safe_there starts_there
         (subst (λ (n : ℕ). n < 2 ^ 32) (sym plan.starts_are) start_small) (plan_release plan)
-        (release_lives (plan_rule plan) plan.release (plan_release plan))))
+        (release_lives (plan_rule plan) plan.sets.release (plan_release plan))))

@@ -1,15 +1,19 @@
 -- Ways down the trees that are read off sound nodes, and polls of one event, none twice.
-use Rattle.std.proofs.Common.{◌≡◌, ℕ, zero, suc, ◌^◌, ◌<◌, Bool, true, false, ◌&&◌, ◌||◌, eqb, ltb, List, [], ◌∷◌, length, get_or, Ok, Err, Result, sym, refl, ap, ◌∙◌, subst, ap₂, arith}
+use Rattle.std.proofs.Common.{◌≡◌, ℕ, zero, suc, ◌+◌, ◌^◌, ◌<◌, Bool, true, false, cond, ◌&&◌, ◌||◌, eqb, ltb, List, [], ◌∷◌, length, get_or, Ok, Err, Result, sym, refl, ap, ◌∙◌, subst, ap₂, pow-suc, arith, lit≤}
 use lib.Bits.{bit_and, bit_or, or_zero_r}
+use Rattle.std.proofs.Math.Bool.{and-or_distrib_left, and-true, or-false, or_assoc}
 use Rattle.std.proofs.lemmas.List.{get_or_default}
-use Rattle.std.proofs.lemmas.Bool.{and_parts, and_from, ltb-true, lt-ltb, eqb-true, cond-true, cond-false}
-use Rattle.events.specs.Sets.{has}
-use Rattle.events.proofs.SetLaws.{has-or, has-and, has_one}
+use Rattle.std.proofs.lemmas.Bool.{and_parts, and_from, ltb-true, lt-ltb, eqb-true}
+use Rattle.std.specs.List.{All, fold}
+use Rattle.std.proofs.lemmas.List.Elements.{All-tail}
+use Rattle.events.specs.Sets.{has, members_of}
+use Rattle.events.proofs.SetLaws.{has-or, has-and, has_one, same_mask}
 use Rattle.rules.specs.declared.Node.{Node}
 use Rattle.rules.specs.declared.Node.TheVariants as node
 use Rattle.rules.specs.trees.Trees.{Tree, leaf, fork, gives, polls}
 use Rattle.rules.specs.trees.Layouts.{size_of}
-use Rattle.rules.specs.watch.Holding.{tree_of}
+use Rattle.events.proofs.MemberLaws.{Member, members-in, union_members}
+use Rattle.rules.specs.watch.Holding.{tree_of, leads_to, polls_of}
 use Rattle.sources.specs.declared.source.SourceRefusal.{SourceRefusal}
 use Rattle.sources.specs.declared.source.SourceRefusal.TheVariants.{NothingWaiting}
 use Rattle.sources.specs.Waiting.{first_of, polled}
@@ -18,7 +22,21 @@ use Rattle.fitting.specs.Plans.{plan_rule, plan_trees}
 use Rattle.fitting.specs.Reading.{tree_from, tree_at, sound_node, sound_at}
 use Rattle.fitting.proofs.PlanLaws.{tree_is}
 use Rattle.watch.specs.Polling.{head_of}
-use Rattle.watch.proofs.UnionLaws.{bits_same, or_assoc}
+
+-- ---- sets with the same members, of any width
+
+lt_pow : (n : ℕ) → n < 2 ^ n
+lt_pow zero = omega arith
+lt_pow (suc n) = let h = lt_pow n in rw pow-suc (omega arith)
+
+bits_same : (a b : ℕ) → ((k : ℕ) → has a k ≡ has b k) → a ≡ b
+bits_same a b h = let p = lt_pow (a + b) in same_mask (a + b) a b (omega arith) (omega arith) (λ k _. h k)
+
+bit_or-assoc : (a b c : ℕ) → bit_or (bit_or a b) c ≡ bit_or a (bit_or b c)
+bit_or-assoc a b c =
+    bits_same _ _ (λ k.
+    has-or (bit_or a b) c k ∙ ap (λ (x : Bool). x || has c k) (has-or a b k) ∙ or_assoc (has a k) (has b k) (has c k)
+    ∙ sym (has-or a (bit_or b c) k ∙ ap (λ (x : Bool). has a k || x) (has-or b c k)))
 
 -- ---- polls
 
@@ -27,7 +45,7 @@ pub asked : (events : List ℕ) (line : ℕ) (on : Bool) → line < 6 → Ok on 
 asked [] line on l h =
     let a = lt-ltb line 6 l in
     let f : ◌≡◌ {A = Result Bool SourceRefusal} (Ok on) (Err NothingWaiting) = rw a at h in
-    let z : ◌≡◌ {A = ℕ} 0 1 = cc in absurd (omega arith)
+    absurd cc
 asked (event ∷ later) line on l h =
     let a = lt-ltb line 6 l in
     let f : ◌≡◌ {A = Result Bool SourceRefusal} (Ok on) (Ok (has event line)) = rw a at h in
@@ -37,10 +55,6 @@ or_absorb : (x y : Bool) → (y ≡ true → x ≡ true) → (x || y) ≡ x
 or_absorb true y h = refl
 or_absorb false true h = sym (h refl)
 or_absorb false false h = refl
-
-and-or : (x y z : Bool) → (x && (y || z)) ≡ ((x && y) || (x && z))
-and-or true y z = refl
-and-or false y z = refl
 
 and-line : (x z : Bool) → (z ≡ true → x ≡ true) → (x && z) ≡ z
 and-line true z h = refl
@@ -52,14 +66,6 @@ and_no_line true true h = h refl
 and_no_line true false h = refl
 and_no_line false z h = refl
 
-or_false : (x : Bool) → (x || false) ≡ x
-or_false true = refl
-or_false false = refl
-
-and_true : (x : Bool) → (x && true) ≡ x
-and_true true = refl
-and_true false = refl
-
 -- a line that is in a set already
 pub or_present : (p line : ℕ) → has p line ≡ true → bit_or p (2 ^ line) ≡ p
 or_present p line h =
@@ -69,10 +75,10 @@ or_present p line h =
 
 -- a line that was polled before is known
 pub known_has : (e p line : ℕ) → has p line ≡ true → has (bit_and e p) line ≡ has e line
-known_has e p line h = has-and e p line ∙ ap (λ (x : Bool). has e line && x) h ∙ and_true (has e line)
+known_has e p line h = has-and e p line ∙ ap (λ (x : Bool). has e line && x) h ∙ and-true (has e line)
 
 known_more : (e p line k : ℕ) → has (bit_and e (bit_or p (2 ^ line))) k ≡ ((has e k && has p k) || (has e k && has (2 ^ line) k))
-known_more e p line k = has-and e (bit_or p (2 ^ line)) k ∙ ap (λ (x : Bool). has e k && x) (has-or p (2 ^ line) k) ∙ and-or (has e k) (has p k) (has (2 ^ line) k)
+known_more e p line k = has-and e (bit_or p (2 ^ line)) k ∙ ap (λ (x : Bool). has e k && x) (has-or p (2 ^ line) k) ∙ and-or_distrib_left (has e k) (has p k) (has (2 ^ line) k)
 
 the_line : (e line k : ℕ) (b : Bool) → has e line ≡ b → has (2 ^ line) k ≡ true → has e k ≡ b
 the_line e line k b h t = ap (has e) (eqb-true k line (sym (has_one line k) ∙ t)) ∙ h
@@ -96,7 +102,7 @@ seen_off e p p' on line known asks b q t =
     ∙ sym (bits_same _ _ (λ k.
     known_more e p line k
     ∙ ap (λ (x : Bool). (has e k && has p k) || x) (and_no_line (has e k) (has (2 ^ line) k) (the_line e line k false h))
-    ∙ or_false (has e k && has p k) ∙ sym (has-and e p k)))
+    ∙ or-false (has e k && has p k) ∙ sym (has-and e p k)))
     ∙ ap (bit_and e) (sym asks)
 
 -- ---- sound nodes, read one node deeper
@@ -116,7 +122,7 @@ node_same s t f same (node.Fork line on off) h =
 
 pub sound_more : (n : ℕ) (nodes : List Node) (place : ℕ) → sound_at n nodes place ≡ true → sound_at (suc n) nodes place ≡ true
 unfolding sound_at
-sound_more zero nodes place h = let z : ◌≡◌ {A = ℕ} 0 1 = cc in absurd (omega arith)
+sound_more zero nodes place h = absurd cc
 sound_more (suc n) nodes place h =
     let x = get_or nodes place (node.Leaf 0) in
     let p = and_parts (ltb place (length nodes)) (sound_node (sound_at n nodes) x) h in
@@ -125,7 +131,7 @@ sound_more (suc n) nodes place h =
 
 pub tree_more : (n : ℕ) (nodes : List Node) (place : ℕ) → sound_at n nodes place ≡ true → tree_at (suc n) nodes place ≡ tree_at n nodes place
 unfolding sound_at tree_at
-tree_more zero nodes place h = let z : ◌≡◌ {A = ℕ} 0 1 = cc in absurd (omega arith)
+tree_more zero nodes place h = absurd cc
 tree_more (suc n) nodes place h =
     let x = get_or nodes place (node.Leaf 0) in
     node_same (tree_at (suc n) nodes) (tree_at n nodes) (sound_at n nodes) (λ k. tree_more n nodes k) x
@@ -177,45 +183,38 @@ off_smaller nodes place line on off f = let e = ap size_of f.tree in omega (arit
 -- ---- a way down from a top
 
 -- at a place of the way: what its tree gives is what the top's gives, and the lines polled so far with those that its tree polls are those of the whole way
-pub record Way (nodes : List Node) (e top before place polled on : ℕ) : Type 0 where
+pub record Way (nodes : List Node) (e top before place polled : ℕ) : Type 0 where
   pub sound : sound_at 7 nodes place ≡ true
   pub set : gives (tree_at 7 nodes place) e ≡ gives (tree_at 7 nodes top) e
   pub lines : bit_or polled (polls (tree_at 7 nodes place) e) ≡ bit_or before (polls (tree_at 7 nodes top) e)
-  pub known : on ≡ bit_and e polled
 
-pub way_starts : (nodes : List Node) (e top before on : ℕ) → sound_at 7 nodes top ≡ true → on ≡ bit_and e before → Way nodes e top before top before on
-way_starts nodes e top before on s k = record { sound = s; set = refl; lines = refl; known = k }
+pub way_starts : (nodes : List Node) (e top before : ℕ) → sound_at 7 nodes top ≡ true → Way nodes e top before top before
+way_starts nodes e top before s = record { sound = s; set = refl; lines = refl }
 
 -- one line more
 more : (p p' line q r s : ℕ) → p' ≡ bit_or p (2 ^ line) → q ≡ bit_or (2 ^ line) r → bit_or p q ≡ s → bit_or p' r ≡ s
-more p p' line q r s a b h = ap (λ (x : ℕ). bit_or x r) a ∙ or_assoc p (2 ^ line) r ∙ ap (bit_or p) (sym b) ∙ h
+more p p' line q r s a b h = ap (λ (x : ℕ). bit_or x r) a ∙ bit_or-assoc p (2 ^ line) r ∙ ap (bit_or p) (sym b) ∙ h
 
-module _ (nodes : List Node) (e top before place p k : ℕ) (way : Way nodes e top before place p k) where
+module _ (nodes : List Node) (e top before place p : ℕ) (way : Way nodes e top before place p) where
   pub leaf_set : (set : ℕ) → tree_at 7 nodes place ≡ leaf set → set ≡ gives (tree_at 7 nodes top) e
   leaf_set set t = sym (ap (λ (x : Tree). gives x e) t) ∙ way.set
 
   pub leaf_lines : (set : ℕ) → tree_at 7 nodes place ≡ leaf set → p ≡ bit_or before (polls (tree_at 7 nodes top) e)
   leaf_lines set t = sym (or_zero_r p) ∙ ap (bit_or p) (sym (ap (λ (x : Tree). polls x e) t)) ∙ way.lines
 
-  module _ (line on off p' k' : ℕ) (f : Forked nodes place line on off) (asks : p' ≡ bit_or p (2 ^ line)) (known : k' ≡ bit_and e p')
-      (b : Bool) (answer : b ≡ has e line) where
-    pub way_on : b ≡ true → Way nodes e top before on p' k'
-    way_on t = let h = sym answer ∙ t in record {
-      sound = f.on_sound;
-      set = sym (ap (λ (x : Tree). gives x e) f.tree ∙ cond-true (has e line) (gives (tree_at 7 nodes on) e) (gives (tree_at 7 nodes off) e) h) ∙ way.set;
-      lines = more p p' line _ (polls (tree_at 7 nodes on) e) _ asks
-          (ap (λ (x : Tree). polls x e) f.tree ∙ ap (bit_or (2 ^ line)) (cond-true (has e line) (polls (tree_at 7 nodes on) e) (polls (tree_at 7 nodes off) e) h)) way.lines;
-      known = known;
-    }
+  -- at a fork on a line the way goes on as the line is, on or off
+  pub way_next : (line on off p' : ℕ) → Forked nodes place line on off → p' ≡ bit_or p (2 ^ line) → (b : Bool) → b ≡ has e line → Way nodes e top before (cond b on off) p'
+  way_next line on off p' f asks b answer = go b answer
+    where
+      given : (b : Bool) → b ≡ has e line → gives (tree_at 7 nodes place) e ≡ cond b (gives (tree_at 7 nodes on) e) (gives (tree_at 7 nodes off) e)
+      given b h = ap (λ (x : Tree). gives x e) f.tree ∙ ap (λ (c : Bool). cond c (gives (tree_at 7 nodes on) e) (gives (tree_at 7 nodes off) e)) (sym h)
 
-    pub way_off : b ≡ false → Way nodes e top before off p' k'
-    way_off t = let h = sym answer ∙ t in record {
-      sound = f.off_sound;
-      set = sym (ap (λ (x : Tree). gives x e) f.tree ∙ cond-false (has e line) (gives (tree_at 7 nodes on) e) (gives (tree_at 7 nodes off) e) h) ∙ way.set;
-      lines = more p p' line _ (polls (tree_at 7 nodes off) e) _ asks
-          (ap (λ (x : Tree). polls x e) f.tree ∙ ap (bit_or (2 ^ line)) (cond-false (has e line) (polls (tree_at 7 nodes on) e) (polls (tree_at 7 nodes off) e) h)) way.lines;
-      known = known;
-    }
+      polled : (b : Bool) → b ≡ has e line → polls (tree_at 7 nodes place) e ≡ bit_or (2 ^ line) (cond b (polls (tree_at 7 nodes on) e) (polls (tree_at 7 nodes off) e))
+      polled b h = ap (λ (x : Tree). polls x e) f.tree ∙ ap (λ (c : Bool). bit_or (2 ^ line) (cond c (polls (tree_at 7 nodes on) e) (polls (tree_at 7 nodes off) e))) (sym h)
+
+      go : (b : Bool) → b ≡ has e line → Way nodes e top before (cond b on off) p'
+      go true h = record { sound = f.on_sound; set = sym (given true h) ∙ way.set; lines = more p p' line _ _ _ asks (polled true h) way.lines }
+      go false h = record { sound = f.off_sound; set = sym (given false h) ∙ way.set; lines = more p p' line _ _ _ asks (polled false h) way.lines }
 
 -- ---- the trees of a plan
 
@@ -234,3 +233,28 @@ module _ (plan : Plan) (nodes : List Node) (q top : ℕ) (nodes_are : nodes ≡ 
 
   pub top_lines : (e p p' : ℕ) → p' ≡ bit_or p (polls (tree_at 7 nodes top) e) → p' ≡ bit_or p (polls (tree_of (plan_trees plan) q) e)
   top_lines e p p' h = h ∙ ap (λ (x : Tree). bit_or p (polls x e)) at_top
+
+-- ---- the trees of the held states, one after the other
+
+-- with the members of a held set that are left: what was gathered so far, and then what they give, is what all held states give; and so with the lines
+pub record Gathering (trees : List Tree) (held e : ℕ) (left : List ℕ) (set polled : ℕ) : Type 0 where
+  pub members : All (Member held) left
+  pub gathered : fold (λ u q. bit_or u (gives (tree_of trees q) e)) set left ≡ leads_to trees held e
+  pub lines : fold (λ u q. bit_or u (polls (tree_of trees q) e)) polled left ≡ polls_of trees held e
+
+-- at first all of them are left
+pub gathering_starts : (trees : List Tree) (held e : ℕ) → held < 2 ^ 32 → Gathering trees held e (members_of held) 0 0
+gathering_starts trees held e small = record {
+  members = members-in held;
+  gathered = sym (union_members 32 held (λ q. gives (tree_of trees q) e) (lit≤ tt) small);
+  lines = sym (union_members 32 held (λ q. polls (tree_of trees q) e) (lit≤ tt) small);
+}
+
+-- one state more
+pub gathering_more : (trees : List Tree) (held e q : ℕ) (left : List ℕ) (set set' polled polled' : ℕ) → Gathering trees held e (q ∷ left) set polled
+    → set' ≡ bit_or set (gives (tree_of trees q) e) → polled' ≡ bit_or polled (polls (tree_of trees q) e) → Gathering trees held e left set' polled'
+gathering_more trees held e q left set set' lines lines' so_far is asks = record {
+  members = All-tail (Member held) q left so_far.members;
+  gathered = ap (λ (s : ℕ). fold (λ u k. bit_or u (gives (tree_of trees k) e)) s left) is ∙ so_far.gathered;
+  lines = ap (λ (s : ℕ). fold (λ u k. bit_or u (polls (tree_of trees k) e)) s left) asks ∙ so_far.lines;
+}

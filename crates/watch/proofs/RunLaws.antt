@@ -1,10 +1,12 @@
 -- Calls made one after the other, and the whole promise of a run.
-use Rattle.std.proofs.Common.{◌≡◌, ℕ, ◌+◌, ◌<◌, ◌≤◌, min, List, [], length, get_or, take, drop, set, sym, refl, ap, ◌∙◌, subst, subst₂, arith}
+use Rattle.std.proofs.Common.{◌≡◌, ℕ, ◌+◌, ◌<◌, ◌≤◌, min, List, [], ◌∷◌, length, get_or, take, drop, set, sym, refl, ap, ◌∙◌, subst, subst₂, add-one, arith, length-drop, drop-cons}
+use Rattle.std.specs.Prelude.{Result}
 use Rattle.std.proofs.lemmas.List.{take-set, get_or-set_same, length-set, drop-set-lt, drop-drop}
 use Rattle.std.specs.List.{AllByRecursion}
 use Rattle.rules.specs.declared.Node.{Node}
 use Rattle.rules.specs.declared.Snapshot.{Snapshot}
 use Rattle.rules.specs.declared.Call.{Call}
+use Rattle.rules.specs.declared.Refusal.{Refusal}
 use Rattle.rules.specs.declared.Answer.{Answer}
 use Rattle.rules.specs.automata.Rules.{Rule, Event}
 use Rattle.rules.specs.trees.Trees.{Tree}
@@ -23,23 +25,39 @@ use Rattle.watch.specs.Watching.{CalledOn}
 
 -- ---- one call more, whose answer is written at its place
 
-pub calls_more : (plan p : Plan) (calls : List Call) (coming : List ℕ) (answers : List Answer) (k : ℕ) (s s' : Snapshot) (left left' : List ℕ) (c : Call) (a d : Answer)
-    → k < length calls → k < length answers → p ≡ plan → CalledSome (plan_rule plan) (plan_trees plan) calls coming answers k s left
-    → CalledOn p (get_or calls k c) s left a s' left' → CalledSome (plan_rule plan) (plan_trees plan) calls coming (set answers k a) (k + 1) s' left'
-calls_more plan p calls coming answers k s s' left left' c a d lc la same so_far called =
-    called_next (plan_rule plan) (plan_trees plan) calls coming (set answers k a) k s s' left left' c d lc (subst (λ (n : ℕ). k < n) (sym (length-set answers k a)) la) written
-    (subst (λ (x : Answer). Called (plan_rule plan) (plan_trees plan) (get_or calls k c) s left x s' left') (sym (get_or-set_same answers k a d la))
-    (subst (λ (q : Plan). CalledOn q (get_or calls k c) s left a s' left') same called))
+-- the call after the first k, and those behind it
+pub record NextCall (calls : List Call) (k : ℕ) (c : Call) (more : List Call) : Type 0 where
+  pub within : k < length calls
+  pub is : c ≡ get_or calls k c
+  pub left : more ≡ drop (k + 1) calls
+
+pub next_call : (calls rest more : List Call) (k : ℕ) (c : Call) → rest ≡ drop k calls → rest ≡ c ∷ more → NextCall calls k c more
+next_call calls rest more k c left is = record { within = within; is = cc all; left = cc all }
+  where
+    within : k < length calls
+    within = omega (arith, length-drop k calls, ap length (sym left ∙ is))
+
+    all : c ∷ more ≡ get_or calls k c ∷ drop (k + 1) calls
+    all = sym is ∙ left ∙ rw add-one (drop-cons calls k c within)
+
+pub calls_more : (plan p : Plan) (calls more : List Call) (coming : List ℕ) (answers : List (Result Answer Refusal)) (k : ℕ) (s s' : Snapshot) (left left' : List ℕ) (c : Call) (a : Result Answer Refusal)
+    → NextCall calls k c more → k < length answers → p ≡ plan → CalledSome (plan_rule plan) (plan_trees plan) calls coming answers k s left
+    → CalledOn p c s left a s' left' → CalledSome (plan_rule plan) (plan_trees plan) calls coming (set answers k a) (k + 1) s' left'
+unfolding CalledOn
+calls_more plan p calls more coming answers k s s' left left' c a next la same so_far called =
+    called_next (plan_rule plan) (plan_trees plan) calls coming (set answers k a) k s s' left left' c a next.within (subst (λ (n : ℕ). k < n) (sym (length-set answers k a)) la) written
+    (subst₂ (λ (d : Call) (x : Result Answer Refusal). Called (plan_rule plan) (plan_trees plan) d s left x s' left') next.is (sym (get_or-set_same answers k a a la))
+    (subst (λ (q : Plan). CalledOn q c s left a s' left') same called))
   where
     written : CalledSome (plan_rule plan) (plan_trees plan) calls coming (set answers k a) k s left
     written = record {
       es = so_far.es;
       stands = so_far.stands;
-      answered = subst (λ (xs : List Answer). CallsAll (plan_rule plan) (plan_trees plan) (take k calls) [] coming xs so_far.es left) (sym (take-set answers k a)) so_far.answered;
+      answered = subst (λ (xs : List (Result Answer Refusal)). CallsAll (plan_rule plan) (plan_trees plan) (take k calls) [] coming xs so_far.es left) (sym (take-set answers k a)) so_far.answered;
     }
 
 -- what is not written yet stays
-pub rest_kept : (answers before : List Answer) (k : ℕ) (a : Answer) → drop k answers ≡ drop k before → drop (k + 1) (set answers k a) ≡ drop (k + 1) before
+pub rest_kept : (answers before : List (Result Answer Refusal)) (k : ℕ) (a : Result Answer Refusal) → drop k answers ≡ drop k before → drop (k + 1) (set answers k a) ≡ drop (k + 1) before
 rest_kept answers before k a h = drop-set-lt (k + 1) answers k a (omega arith) ∙ sym (drop-drop 1 k answers) ∙ ap (drop 1) h ∙ drop-drop 1 k before
 
 -- ---- the whole promise
@@ -66,14 +84,9 @@ watched price rule calls before after told made plan room fit comes of made_is (
   rest = rest;
 }
 
--- ---- a call by its name
-
-pub as_call : (plan : Plan) (c k : Call) (s s' : Snapshot) (coming left : List ℕ) (a b : Answer) → c ≡ k → a ≡ b → CalledOn plan k s coming b s' left → CalledOn plan c s coming a s' left
-as_call plan c k s s' coming left a b is same called = subst₂ (λ (x : Call) (y : Answer). CalledOn plan x s coming y s' left) (sym is) (sym same) called
-
 -- ---- all calls made
 
-pub calls_all : (plan : Plan) (calls : List Call) (coming : List ℕ) (before after : List Answer) (k made : ℕ) (s : Snapshot) (left : List ℕ) → k ≡ made
+pub calls_all : (plan : Plan) (calls : List Call) (coming : List ℕ) (before after : List (Result Answer Refusal)) (k made : ℕ) (s : Snapshot) (left : List ℕ) → k ≡ made
     → CalledSome (plan_rule plan) (plan_trees plan) calls coming after k s left → drop k after ≡ drop k before
     → CallsMade plan (take made calls) coming (take made after) left × (drop made after ≡ drop made before)
 calls_all plan calls coming before after k made s left all so_far rest =

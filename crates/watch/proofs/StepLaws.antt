@@ -63,13 +63,13 @@ next_word release held a b verdict.Open verdict.Open e = go (eqb held 0) (eqb (b
     go true y = refl
     go false true = refl
     go false false = refl
-next_word release held a b verdict.Open (verdict.BreachAt j) e = absurd (let z : ◌≡◌ {A = ℕ} 0 1 = cc in let no_way : ⊥ = native.Mathlib.Nat.suc-ne-zero 0 (sym z) in no_way)
-next_word release held a b verdict.Open (verdict.ClearSince j) e = absurd (let z : ◌≡◌ {A = ℕ} 0 1 = cc in let no_way : ⊥ = native.Mathlib.Nat.suc-ne-zero 0 (sym z) in no_way)
-next_word release held a b (verdict.BreachAt i) verdict.Open e = absurd (let z : ◌≡◌ {A = ℕ} 0 1 = cc in let no_way : ⊥ = native.Mathlib.Nat.suc-ne-zero 0 (sym z) in no_way)
+next_word release held a b verdict.Open (verdict.BreachAt j) e = cc
+next_word release held a b verdict.Open (verdict.ClearSince j) e = cc
+next_word release held a b (verdict.BreachAt i) verdict.Open e = cc
 next_word release held a b (verdict.BreachAt i) (verdict.BreachAt j) e = refl
-next_word release held a b (verdict.BreachAt i) (verdict.ClearSince j) e = absurd (let z : ◌≡◌ {A = ℕ} 0 1 = cc in let no_way : ⊥ = native.Mathlib.Nat.suc-ne-zero 0 (sym z) in no_way)
-next_word release held a b (verdict.ClearSince i) verdict.Open e = absurd (let z : ◌≡◌ {A = ℕ} 0 1 = cc in let no_way : ⊥ = native.Mathlib.Nat.suc-ne-zero 0 (sym z) in no_way)
-next_word release held a b (verdict.ClearSince i) (verdict.BreachAt j) e = absurd (let z : ◌≡◌ {A = ℕ} 0 1 = cc in let no_way : ⊥ = native.Mathlib.Nat.suc-ne-zero 0 (sym z) in no_way)
+next_word release held a b (verdict.BreachAt i) (verdict.ClearSince j) e = cc
+next_word release held a b (verdict.ClearSince i) verdict.Open e = cc
+next_word release held a b (verdict.ClearSince i) (verdict.BreachAt j) e = cc
 next_word release held a b (verdict.ClearSince i) (verdict.ClearSince j) e = refl
 
 -- ---- live states alone
@@ -87,7 +87,7 @@ leads_live rule trees held e t sound low h =
 -- ---- of a plan
 
 module _ (plan : Plan) where
-  pub plan_release : ReleaseSet (plan_rule plan) plan.release
+  pub plan_release : ReleaseSet (plan_rule plan) plan.sets.release
   plan_release = subst (ReleaseSet (plan_rule plan)) (sym plan.release_is) (release_right (plan_rule plan) (draft_well plan.draft))
 
   -- the numbers of live states are numbers of states
@@ -95,9 +95,9 @@ module _ (plan : Plan) where
   lives_within set lives q h = live_below (plan_rule plan) (draft_well plan.draft) q (lives q (true_T (has set q) h))
 
   -- what is held after an event are states of the rule
-  pub led_within : (held e : ℕ) → e < 64 → (q : ℕ) → has (settled_by plan.release (leads_to (plan_trees plan) held e)) q ≡ true → q < length (plan_rule plan).states
-  led_within held e low = lives_within (settled_by plan.release (leads_to (plan_trees plan) held e)) (go (eqb (bit_and (leads_to (plan_trees plan) held e) plan.release) 0))
+  pub led_within : (held e : ℕ) → e < 64 → (q : ℕ) → has (settled_by plan.sets.release (leads_to (plan_trees plan) held e)) q ≡ true → q < length (plan_rule plan).states
+  led_within held e low = lives_within (settled_by plan.sets.release (leads_to (plan_trees plan) held e)) (go (eqb (bit_and (leads_to (plan_trees plan) held e) plan.sets.release) 0))
     where
-      go : (b : Bool) → (q : ℕ) → q ∈ cond b (leads_to (plan_trees plan) held e) plan.release → Live (plan_rule plan) q
+      go : (b : Bool) → (q : ℕ) → q ∈ cond b (leads_to (plan_trees plan) held e) plan.sets.release → Live (plan_rule plan) q
       go true q h = leads_live (plan_rule plan) (plan_trees plan) held e q (plan_sound plan) low h
-      go false q h = release_lives (plan_rule plan) plan.release plan_release q h
+      go false q h = release_lives (plan_rule plan) plan.sets.release plan_release q h

@@ -3,6 +3,7 @@ use Rattle.std.specs.Prelude.{◌≡◌, ℕ, ◌<◌, ◌≤◌, min, List, [],
 use Rattle.std.specs.List.{AllByRecursion}
 use Rattle.rules.specs.declared.Node.{Node}
 use Rattle.rules.specs.declared.Call.{Call}
+use Rattle.rules.specs.declared.Refusal.{Refusal}
 use Rattle.rules.specs.declared.Answer.{Answer}
 use Rattle.rules.specs.automata.Rules.{Rule, Event}
 use Rattle.rules.specs.trees.Costs.{Price}
@@ -18,15 +19,15 @@ use Rattle.watch.specs.declared.run.Ran.{Ran}
 -- the lists that a run is lent, as they were and as they are afterwards
 pub record Lent : Type 0 where
   pub nodes : List Node
-  pub answers : List Answer
+  pub answers : List (Result Answer Refusal)
   -- the events that the source has still to come
   pub coming : List ℕ
 
-abbrev pub lent : List Node → List Answer → List ℕ → Lent
+abbrev pub lent : List Node → List (Result Answer Refusal) → List ℕ → Lent
 lent nodes answers coming = record { nodes = nodes; answers = answers; coming = coming }
 
 -- calls made of a watch newly armed over a plan, with their answers, and what is left in its source
-abbrev pub CallsMade : Plan → List Call → List ℕ → List Answer → List ℕ → Type 0
+abbrev pub CallsMade : Plan → List Call → List ℕ → List (Result Answer Refusal) → List ℕ → Type 0
 CallsMade plan calls coming answers left = (taken : List ℕ) × CallsAll (plan_rule plan) (plan_trees plan) calls [] coming answers taken left
 
 -- a run that is not refused

@@ -1,5 +1,5 @@
 -- What a watch keeps, computed from the release state as a set. Private contracts cite these; what they mean is said of the public calls.
-use Rattle.std.specs.Prelude.{ℕ, ◌+◌, cond, ◌==◌, bit_and}
+use Rattle.std.specs.Prelude.{ℕ, cond, ◌==◌, bit_and}
 use Rattle.rules.specs.declared.Snapshot.{Snapshot}
 use Rattle.rules.specs.declared.Verdict.{Verdict}
 use Rattle.rules.specs.declared.Verdict.TheVariants as verdict
@@ -19,12 +19,12 @@ next_by release count held verdict.Open = reads_by release count held
 next_by release count held (verdict.BreachAt j) = verdict.BreachAt j
 next_by release count held (verdict.ClearSince i) = verdict.ClearSince i
 
--- one event more, which leads to the states reached
-abbrev pub after_event : ℕ → ℕ → Snapshot → Snapshot
-after_event release reached s = record {
+-- one event more, which leads to the states reached, with the count that is then told
+abbrev pub stepped_by : ℕ → ℕ → ℕ → Snapshot → Snapshot
+stepped_by release reached count s = record {
   held = settled_by release reached;
-  count = s.count + 1;
-  verdict = next_by release (s.count + 1) (settled_by release reached) s.verdict;
+  count = count;
+  verdict = next_by release count (settled_by release reached) s.verdict;
 }
 
 -- a set held, and no event taken
@@ -34,11 +34,3 @@ begun_with release held = record { held = held; count = 0; verdict = reads_by re
 -- the set held when a watch is armed
 abbrev pub start_by : Sets → ℕ
 start_by sets = cond (bit_and sets.starts sets.safe == 0) (bit_and sets.starts sets.live) sets.release
-
--- one event tried, which leads to the states reached: the count stays
-abbrev pub tried_event : ℕ → ℕ → Snapshot → Snapshot
-tried_event release reached s = record {
-  held = settled_by release reached;
-  count = s.count;
-  verdict = next_by release s.count (settled_by release reached) s.verdict;
-}

@@ -1,7 +1,6 @@
 // The watch: armed from a plan, it takes the events of a source by polls of single lines, and shows BREACH, CLEAR or OPEN.
 #![tactic(auto)]
 
-pub mod answer;
 pub mod armed;
 mod polling;
 pub mod run;

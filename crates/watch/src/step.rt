@@ -1,78 +1,83 @@
 // What a watch keeps: when it is armed, and after one event more.
-ghost use Rattle.std.specs.Prelude.{◌≡◌, ◌<◌};
-ghost use Rattle.watch.specs.Steps.{settled_by, reads_by, next_by, after_event, tried_event, begun_with, start_by};
+ghost use Rattle.std.specs.Prelude.{◌≡◌};
+ghost use Rattle.watch.specs.Steps.{settled_by, reads_by, next_by, stepped_by, begun_with, start_by};
+ghost use Rattle.watch.specs.Watching.{release_of};
 
+use fitting::plan::Plan;
 use fitting::plan::access::Sets;
 use rules::{Snapshot, Verdict};
 
-// The set that is held: the release state alone where it is among the states reached.
-pub(crate) fn settle(release: u32, reached: u32) -> u32
-    ensures { result ≡ settled_by release reached }
-{
-    if reached & release == 0 {
-        reached
-    } else {
-        release
-    }
+// The release state of a plan, as a set that is empty where there is none.
+#[derive(Clone, Copy)]
+pub(crate) struct Release {
+    set: u32,
 }
 
-// The verdict that a held set gives at a count.
-pub(crate) fn read_verdict(release: u32, count: u32, held: u32) -> Verdict
-    ensures { result ≡ reads_by release count held }
-{
-    if held == 0 {
-        Verdict::BreachAt(count)
-    } else if held & release == 0 {
-        Verdict::Open
-    } else {
-        Verdict::ClearSince(count)
+impl Release {
+    // The release state of a plan.
+    pub(crate) fn of(plan: &Plan) -> Self
+        ensures { result.set ≡ release_of plan.now }
+    {
+        Release {
+            set: plan.sets().release,
+        }
     }
-}
 
-// The verdict after one event more: OPEN is read anew, and any other stays.
-pub(crate) fn next_verdict(before: Verdict, release: u32, count: u32, held: u32) -> Verdict
-    ensures { result ≡ next_by release count held before }
-{
-    match before {
-        Verdict::Open => read_verdict(release, count, held),
-        _ => before,
+    // The set that is held: the release state alone where it is among the states reached.
+    fn settle(self, reached: u32) -> u32
+        ensures { result ≡ settled_by self.set reached }
+    {
+        if reached & self.set == 0 {
+            reached
+        } else {
+            self.set
+        }
     }
-}
 
-// What a watch keeps after an event that leads to these states.
-pub(crate) fn after_event(release: u32, reached: u32, before: Snapshot) -> Snapshot
-    requires { before.count < 1000000000 }
-    ensures { result ≡ after_event release reached before }
-{
-    let held = settle(release, reached);
-    let count = before.count + 1;
-    Snapshot {
-        held,
-        count,
-        verdict: next_verdict(before.verdict, release, count, held),
+    // The verdict that a held set gives at a count.
+    fn read_verdict(self, count: u32, held: u32) -> Verdict
+        ensures { result ≡ reads_by self.set count held }
+    {
+        if held == 0 {
+            Verdict::BreachAt(count)
+        } else if held & self.set == 0 {
+            Verdict::Open
+        } else {
+            Verdict::ClearSince(count)
+        }
     }
-}
 
-// What a watch that kept this would hold and show after one event more; its count stays.
-pub(crate) fn after_trial(release: u32, reached: u32, before: Snapshot) -> Snapshot
-    ensures { result ≡ tried_event release reached before }
-{
-    let tried = settle(release, reached);
-    Snapshot {
-        held: tried,
-        count: before.count,
-        verdict: next_verdict(before.verdict, release, before.count, tried),
+    // The verdict after one event more: OPEN is read anew, and any other stays.
+    fn next_verdict(self, before: Verdict, count: u32, held: u32) -> Verdict
+        ensures { result ≡ next_by self.set count held before }
+    {
+        match before {
+            Verdict::Open => self.read_verdict(count, held),
+            _ => before,
+        }
     }
-}
 
-// What a watch keeps that holds this set and has taken no event.
-pub(crate) fn begin(release: u32, held: u32) -> Snapshot
-    ensures { result ≡ begun_with release held }
-{
-    Snapshot {
-        held,
-        count: 0,
-        verdict: read_verdict(release, 0, held),
+    // What a watch keeps after an event that leads to these states, with the count that is then told.
+    pub(crate) fn step(self, before: Snapshot, reached: u32, count: u32) -> Snapshot
+        ensures { result ≡ stepped_by self.set reached count before }
+    {
+        let held = self.settle(reached);
+        Snapshot {
+            held,
+            count,
+            verdict: self.next_verdict(before.verdict, count, held),
+        }
+    }
+
+    // What a watch keeps that holds this set and has taken no event.
+    pub(crate) fn begin(self, held: u32) -> Snapshot
+        ensures { result ≡ begun_with self.set held }
+    {
+        Snapshot {
+            held,
+            count: 0,
+            verdict: self.read_verdict(0, held),
+        }
     }
 }
 

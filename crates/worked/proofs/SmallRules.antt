@@ -9,6 +9,8 @@ use Rattle.worked.specs.Cases.{AlwaysShows, clearing, staying, hopeless, waverin
 use Rattle.events.proofs.SetLaws.{dec_t, ∈_below}
 use Rattle.events.proofs.CellLaws.{covers_all, covers_down}
 use Rattle.rules.proofs.automata.RunLaws.{reaches_ending}
+use Rattle.worked.proofs.Endings.{live_here, live_before}
+use Rattle.worked.proofs.Below.{◌&◌, each_below}
 use Rattle.rules.proofs.watch.VerdictLaws.{shows_open, shows_breach, shows_clear}
 
 -- cell 1 covers the events with line 0 on, and cell 2 those with it off
@@ -25,38 +27,15 @@ unfolding has
 clearing_safe = record { small = lit≤ tt; live = λ q h. live q (∈_below 2 q 3 (lit≤ tt) h); stays = λ q e h ok. stays q e (∈_below 2 q 3 (lit≤ tt) h) }
   where
     live : (q : ℕ) → q < 2 → Live clearing q
-    live zero l = record {
-      u = 1 ∷ [];
-      v = 0 ∷ [];
-      start = 0;
-      accepting = 1;
-      begins = refl;
-      u_events = (lit≤ tt, tt);
-      v_events = (lit≤ tt, tt);
-      v_turns = tt;
-      accepts = tt;
-      there = (1, inr (inl (refl, covers_on 1 tt, refl)), refl);
-      round = (1, inr (inr (inl (refl, covers_all 0, refl))), refl);
-    }
-    live (suc zero) l = record {
-      u = [];
-      v = 0 ∷ [];
-      start = 1;
-      accepting = 1;
-      begins = refl;
-      u_events = tt;
-      v_events = (lit≤ tt, tt);
-      v_turns = tt;
-      accepts = tt;
-      there = refl;
-      round = (1, inr (inr (inl (refl, covers_all 0, refl))), refl);
-    }
-    live (suc (suc q)) l = absurd (let no_way : ⊥ = omega arith in no_way)
+    live = each_below 2 (Live clearing) (
+        live_before clearing 0 1 1 0 (lit≤ tt) (lit≤ tt) tt (1, inr (inl (refl, covers_on 1 tt, refl)), refl) (1, inr (inr (inl (refl, covers_all 0, refl))), refl)
+        & live_here clearing 1 0 (lit≤ tt) tt (1, inr (inr (inl (refl, covers_all 0, refl))), refl)
+        & tt
+        )
 
     stays : (q e : ℕ) → q < 2 → (r : ℕ) × Step clearing q e r × (r ∈ 3)
-    stays zero e l = (0, inl (refl, covers_all e, refl), tt)
-    stays (suc zero) e l = (1, inr (inr (inl (refl, covers_all e, refl))), tt)
-    stays (suc (suc q)) e l = absurd (let no_way : ⊥ = omega arith in no_way)
+    stays q e = each_below 2 (λ q. (r : ℕ) × Step clearing q e r × (r ∈ 3))
+        ((0, inl (refl, covers_all e, refl), tt) & (1, inr (inr (inl (refl, covers_all e, refl))), tt) & tt) q
 
 pub clearing_shows : AlwaysShows clearing (verdict.ClearSince 0)
 unfolding has
@@ -73,24 +52,10 @@ unfolding has
 staying_safe = record { small = lit≤ tt; live = λ q h. live q (∈_below 1 q 1 (lit≤ tt) h); stays = λ q e h ok. stays q e (∈_below 1 q 1 (lit≤ tt) h) }
   where
     live : (q : ℕ) → q < 1 → Live staying q
-    live zero l = record {
-      u = [];
-      v = 0 ∷ [];
-      start = 0;
-      accepting = 0;
-      begins = refl;
-      u_events = tt;
-      v_events = (lit≤ tt, tt);
-      v_turns = tt;
-      accepts = tt;
-      there = refl;
-      round = (0, inl (refl, covers_all 0, refl), refl);
-    }
-    live (suc q) l = absurd (let no_way : ⊥ = omega arith in no_way)
+    live = each_below 1 (Live staying) (live_here staying 0 0 (lit≤ tt) tt (0, inl (refl, covers_all 0, refl), refl) & tt)
 
     stays : (q e : ℕ) → q < 1 → (r : ℕ) × Step staying q e r × (r ∈ 1)
-    stays zero e l = (0, inl (refl, covers_all e, refl), tt)
-    stays (suc q) e l = absurd (let no_way : ⊥ = omega arith in no_way)
+    stays q e = each_below 1 (λ q. (r : ℕ) × Step staying q e r × (r ∈ 1)) ((0, inl (refl, covers_all e, refl), tt) & tt) q
 
 pub staying_shows : AlwaysShows staying (verdict.ClearSince 0)
 unfolding has
@@ -114,11 +79,6 @@ hopeless_shows es ok = shows_breach hopeless es 0 ok (record { within = omega ar
 
 -- ---- open for ever: both states start and accepting, moves (0,1,0), (0,1,1), (1,2,0), (1,2,1)
 
-two_states : (P : ℕ → Type 0) → P 0 → P 1 → (q : ℕ) → q < 2 → P q
-two_states P a b zero l = a
-two_states P a b (suc zero) l = b
-two_states P a b (suc (suc q)) l = absurd (let no_way : ⊥ = omega arith in no_way)
-
 wavering_run : (es : List ℕ) → (q : ℕ) × (q < 2) × ((r : ℕ) × (r < 2) × Run wavering q es r)
 wavering_run [] = (0, lit≤ tt, (0, lit≤ tt, refl))
 wavering_run (e ∷ es) = go (dec_t (has e 0)) (wavering_run es)
@@ -127,14 +87,16 @@ wavering_run (e ∷ es) = go (dec_t (has e 0)) (wavering_run es)
     off n = lib.Dec.not_T (has e 0) n
 
     go : T (has e 0) ⊎ (T (has e 0) → ⊥) → (q : ℕ) × (q < 2) × ((r : ℕ) × (r < 2) × Run wavering q es r) → (q : ℕ) × (q < 2) × ((r : ℕ) × (r < 2) × Run wavering q (e ∷ es) r)
-    go (inl h) (q, l, (r, lr, run)) = (0, lit≤ tt, (r, lr, (q, two_states (Step wavering 0 e) (inl (refl, covers_on e h, refl)) (inr (inl (refl, covers_on e h, refl))) q l, run)))
-    go (inr n) (q, l, (r, lr, run)) = (1, lit≤ tt, (r, lr, (q, two_states (Step wavering 1 e) (inr (inr (inl (refl, covers_off e (off n), refl)))) (inr (inr (inr (inl (refl, covers_off e (off n), refl))))) q l, run)))
+    go (inl h) (q, l, (r, lr, run)) = (0, lit≤ tt, (r, lr, (q, each_below 2 (Step wavering 0 e) (inl (refl, covers_on e h, refl) & inr (inl (refl, covers_on e h, refl)) & tt) q l, run)))
+    go (inr n) (q, l, (r, lr, run)) = (1, lit≤ tt, (r, lr, (q, each_below 2 (Step wavering 1 e) (inr (inr (inl (refl, covers_off e (off n), refl))) & inr (inr (inr (inl (refl, covers_off e (off n), refl)))) & tt) q l, run)))
 
 wavering_live : (q : ℕ) → q < 2 → Live wavering q
 unfolding has
-wavering_live = two_states (Live wavering)
-    (record { u = []; v = 1 ∷ []; start = 0; accepting = 0; begins = refl; u_events = tt; v_events = (lit≤ tt, tt); v_turns = tt; accepts = tt; there = refl; round = (0, inl (refl, covers_on 1 tt, refl), refl) })
-    (record { u = []; v = 0 ∷ []; start = 1; accepting = 1; begins = refl; u_events = tt; v_events = (lit≤ tt, tt); v_turns = tt; accepts = tt; there = refl; round = (1, inr (inr (inr (inl (refl, covers_off 0 tt, refl)))), refl) })
+wavering_live = each_below 2 (Live wavering) (
+    live_here wavering 0 1 (lit≤ tt) tt (0, inl (refl, covers_on 1 tt, refl), refl)
+    & live_here wavering 1 0 (lit≤ tt) tt (1, inr (inr (inr (inl (refl, covers_off 0 tt, refl)))), refl)
+    & tt
+    )
 
 wavering_unsafe : (q : ℕ) → Safe wavering q → ⊥
 unfolding has
@@ -156,5 +118,5 @@ wavering_unsafe q (set, safe, h) = suc-ne-zero 0 (at_off (safe.stays q 0 h (lit�
 
 pub wavering_shows : AlwaysShows wavering verdict.Open
 wavering_shows es ok = shows_open wavering es ok
-    (λ n. let (s, l, (q, lq, run)) = wavering_run es in n (reaches_ending wavering es (s, two_states (Starts wavering) tt tt s l, (q, run, wavering_live q lq))))
+    (λ n. let (s, l, (q, lq, run)) = wavering_run es in n (reaches_ending wavering es (s, each_below 2 (Starts wavering) (tt & tt & tt) s l, (q, run, wavering_live q lq))))
     (λ (s, st, (q, run, safe)). wavering_unsafe q safe)

@@ -1,24 +1,25 @@
 -- One rule worked in full: its live and safe states, the best trees of its first state by both measures, and a watch that goes from OPEN to BREACH.
 use Rattle.std.proofs.Common.{◌≡◌, ℕ, zero, suc, ◌+◌, ◌<◌, ◌≤◌, T, List, [], ◌∷◌, get_or, sym, refl, ◌∙◌, subst, inl, inr, suc-ne-zero, arith, lit≤, Bor}
+use Rattle.std.specs.Prelude.{Err, Result}
 use lib.Bits.{and_zero_r}
 use Rattle.rules.specs.declared.Move.{Move}
 use Rattle.rules.specs.declared.Verdict.TheVariants as verdict
 use Rattle.rules.specs.declared.Word.TheVariants as word
 use Rattle.rules.specs.declared.Call.TheVariants as call
+use Rattle.rules.specs.declared.Refusal.{Refusal}
 use Rattle.rules.specs.declared.Refusal.TheVariants as refusal
 use Rattle.rules.specs.declared.Answer.{Answer}
-use Rattle.rules.specs.declared.Answer.TheVariants as answer
 use Rattle.events.specs.Sets.{has, ◌∈◌, set_of, union_over}
 use Rattle.events.specs.Cells.{Covers, covers, lowest, free_in}
-use Rattle.rules.specs.automata.Rules.{Starts, Accepts, LineInRange, MoveInRange, Before, WellFormed}
-use Rattle.rules.specs.automata.Runs.{Step, Run, Live, Safe}
+use Rattle.rules.specs.automata.Rules.{Starts, LineInRange, MoveInRange, Before, WellFormed}
+use Rattle.rules.specs.automata.Runs.{Step, Live, Safe}
 use Rattle.rules.specs.automata.Pruning.{StandsFor, Wants, selected, Kinds, pruned_moves}
 use Rattle.rules.specs.trees.Trees.{Tree}
 use Rattle.rules.specs.trees.Costs.{Price, Lawful, expected, worst, cost_of}
-use Rattle.rules.specs.trees.Bests.{Bests, BestTree, Fitted}
+use Rattle.rules.specs.trees.Bests.{BestTree, Fitted}
 use Rattle.rules.specs.watch.Verdicts.{IsBreach}
 use Rattle.rules.specs.watch.Holding.{tree_of, Sound, Settled, ReleaseSet, StartSet, Reads, Watches}
-use Rattle.rules.specs.watch.Calls.{Taking, Rehearsing}
+use Rattle.rules.specs.watch.Calls.{Taking, Rehearsing, take_gives, rehearsal_gives}
 use Rattle.rules.specs.watch.Calls as C
 use Rattle.rules.specs.watch.Promises.{FittedAll, Promise}
 use Rattle.worked.specs.Cases.{line, move, worked, by_expected, by_worst, kept_by3, worked_trees, worked_costs, worked_log}
@@ -28,8 +29,10 @@ use Rattle.rules.proofs.automata.PruningLaws.{selected_wanted}
 use Rattle.events.proofs.CellLaws.{covers_is}
 use Rattle.rules.proofs.trees.MeasureLaws.{expected_lawful, worst_lawful}
 use Rattle.rules.proofs.trees.BestLaws.{best_fitted, best_costs}
-use Rattle.rules.proofs.trees.BestComputed.{fill, cost_in, line_in, fill_bests, build, built}
+use Rattle.rules.proofs.trees.BestComputed.{Best, fill, cost_in, line_in, fill_bests, build, built}
 use Rattle.rules.proofs.watch.VerdictLaws.{is_breach}
+use Rattle.worked.proofs.Endings.{live_here, live_before}
+use Rattle.worked.proofs.Below.{◌&◌, EachBelow, each_below}
 use Rattle.rules.proofs.watch.PromiseLaws.{fitted_sound, settled_open, reads_open, reads_breach, armed, taken, take_breached, take_taken, tried_none, tried_more, rehearse_breach_found, rehearse_not_an_event}
 
 -- ---- it is well formed
@@ -44,50 +47,40 @@ abbrev Rises : ℕ → Type 0
 Rises k = (d : Move) → Before (get_or worked.moves k d) (get_or worked.moves (k + 1) d)
 
 rises : (k : ℕ) → k < 6 → Rises k
-rises zero l d = inr (refl, inl (lit≤ tt))
-rises (suc zero) l d = inr (refl, inl (lit≤ tt))
-rises (suc (suc zero)) l d = inr (refl, inl (lit≤ tt))
-rises (suc (suc (suc zero))) l d = inl (lit≤ tt)
-rises (suc (suc (suc (suc zero)))) l d = inl (lit≤ tt)
-rises (suc (suc (suc (suc (suc zero))))) l d = inl (lit≤ tt)
-rises (suc (suc (suc (suc (suc (suc k)))))) l d = absurd (let no_way : ⊥ = omega arith in no_way)
+rises = each_below 6 Rises (
+    (λ d. inr (refl, inl (lit≤ tt)))
+    & (λ d. inr (refl, inl (lit≤ tt)))
+    & (λ d. inr (refl, inl (lit≤ tt)))
+    & (λ d. inl (lit≤ tt))
+    & (λ d. inl (lit≤ tt))
+    & (λ d. inl (lit≤ tt))
+    & tt
+    )
 
 pub worked_well : WellFormed worked
 worked_well = record {
   six_lines = refl;
-  lines_fit = (
-    fits 10 20 (lit≤ tt) (lit≤ tt) (lit≤ tt),
-    (
-      fits 5 50 (lit≤ tt) (lit≤ tt) (lit≤ tt),
-      (
-        fits 20 50 (lit≤ tt) (lit≤ tt) (lit≤ tt),
-        (fits 1 50 (lit≤ tt) (lit≤ tt) (lit≤ tt), (fits 1 50 (lit≤ tt) (lit≤ tt) (lit≤ tt), (fits 1 50 (lit≤ tt) (lit≤ tt) (lit≤ tt), tt))),
-      ),
-    ),
-  );
+  lines_fit =
+      fits 10 20 (lit≤ tt) (lit≤ tt) (lit≤ tt)
+      & fits 5 50 (lit≤ tt) (lit≤ tt) (lit≤ tt)
+      & fits 20 50 (lit≤ tt) (lit≤ tt) (lit≤ tt)
+      & fits 1 50 (lit≤ tt) (lit≤ tt) (lit≤ tt)
+      & fits 1 50 (lit≤ tt) (lit≤ tt) (lit≤ tt)
+      & fits 1 50 (lit≤ tt) (lit≤ tt) (lit≤ tt)
+      & tt;
   some_state = lit≤ tt;
   few_states = lit≤ tt;
   some_start = (0, tt);
   few_moves = lit≤ tt;
-  moves_fit = (
-    goes 0 1 1 (lit≤ tt) (lit≤ tt) (lit≤ tt),
-    (
-      goes 0 5 2 (lit≤ tt) (lit≤ tt) (lit≤ tt),
-      (
-        goes 0 6 1 (lit≤ tt) (lit≤ tt) (lit≤ tt),
-        (
-          goes 0 9 3 (lit≤ tt) (lit≤ tt) (lit≤ tt),
-          (
-            goes 1 27 1 (lit≤ tt) (lit≤ tt) (lit≤ tt),
-            (
-              goes 2 27 2 (lit≤ tt) (lit≤ tt) (lit≤ tt),
-              (goes 3 27 3 (lit≤ tt) (lit≤ tt) (lit≤ tt), tt),
-            ),
-          ),
-        ),
-      ),
-    ),
-  );
+  moves_fit =
+      goes 0 1 1 (lit≤ tt) (lit≤ tt) (lit≤ tt)
+      & goes 0 5 2 (lit≤ tt) (lit≤ tt) (lit≤ tt)
+      & goes 0 6 1 (lit≤ tt) (lit≤ tt) (lit≤ tt)
+      & goes 0 9 3 (lit≤ tt) (lit≤ tt) (lit≤ tt)
+      & goes 1 27 1 (lit≤ tt) (lit≤ tt) (lit≤ tt)
+      & goes 2 27 2 (lit≤ tt) (lit≤ tt) (lit≤ tt)
+      & goes 3 27 3 (lit≤ tt) (lit≤ tt) (lit≤ tt)
+      & tt;
   ascending = λ k d l. rises k (omega arith) d;
 }
 
@@ -96,40 +89,15 @@ worked_well = record {
 covered : (cell e : ℕ) → T (covers cell e) → Covers cell e
 covered cell e h = (covers_is cell e).0 h
 
-live_at : (q : ℕ) → Accepts worked q → Run worked q (8 ∷ []) q → Live worked q
-live_at q acc round = record {
-  u = [];
-  v = 8 ∷ [];
-  u_events = tt;
-  v_events = (lit≤ tt, tt);
-  v_turns = tt;
-  start = q;
-  accepting = q;
-  begins = refl;
-  accepts = acc;
-  there = refl;
-  round = round;
-}
-
 worked_live : (q : ℕ) → q < 4 → Live worked q
 unfolding covers has
-worked_live zero l = record {
-  u = 1 ∷ [];
-  v = 8 ∷ [];
-  u_events = (lit≤ tt, tt);
-  v_events = (lit≤ tt, tt);
-  v_turns = tt;
-  start = 0;
-  accepting = 1;
-  begins = refl;
-  accepts = tt;
-  there = (1, inl (refl, covered 1 1 tt, refl), refl);
-  round = (1, inr (inr (inr (inr (inl (refl, covered 27 8 tt, refl))))), refl);
-}
-worked_live (suc zero) l = live_at 1 tt (1, inr (inr (inr (inr (inl (refl, covered 27 8 tt, refl))))), refl)
-worked_live (suc (suc zero)) l = live_at 2 tt (2, inr (inr (inr (inr (inr (inl (refl, covered 27 8 tt, refl)))))), refl)
-worked_live (suc (suc (suc zero))) l = live_at 3 tt (3, inr (inr (inr (inr (inr (inr (inl (refl, covered 27 8 tt, refl))))))), refl)
-worked_live (suc (suc (suc (suc q)))) l = absurd (let no_way : ⊥ = omega arith in no_way)
+worked_live = each_below 4 (Live worked) (
+    live_before worked 0 1 1 8 (lit≤ tt) (lit≤ tt) tt (1, inl (refl, covered 1 1 tt, refl), refl) (1, inr (inr (inr (inr (inl (refl, covered 27 8 tt, refl))))), refl)
+    & live_here worked 1 8 (lit≤ tt) tt (1, inr (inr (inr (inr (inl (refl, covered 27 8 tt, refl))))), refl)
+    & live_here worked 2 8 (lit≤ tt) tt (2, inr (inr (inr (inr (inr (inl (refl, covered 27 8 tt, refl)))))), refl)
+    & live_here worked 3 8 (lit≤ tt) tt (3, inr (inr (inr (inr (inr (inr (inl (refl, covered 27 8 tt, refl))))))), refl)
+    & tt
+    )
 
 -- at event 0 only state 0 has a move, and it leads to state 1
 step_at_0 : (q r : ℕ) → Step worked q 0 r → (0 ≡ q) × (1 ≡ r)
@@ -151,11 +119,7 @@ worked_unsafe q (set, safe, h) =
 
 four : (q : ℕ) → q < 4 → q ∈ 15
 unfolding has
-four zero l = tt
-four (suc zero) l = tt
-four (suc (suc zero)) l = tt
-four (suc (suc (suc zero))) l = tt
-four (suc (suc (suc (suc q)))) l = absurd (let no_way : ⊥ = omega arith in no_way)
+four = each_below 4 (λ q. q ∈ 15) (tt & tt & tt & tt & tt)
 
 pub worked_kinds : Kinds worked 15 0 0
 worked_kinds = record {
@@ -175,61 +139,47 @@ wanted : (q : ℕ) → Wants worked q (wants q)
 unfolding wants
 wanted q = selected_wanted worked 15 0 0 worked_kinds q
 
-module _ (price : Price) (law : Lawful price) (q : ℕ) (t : Tree) (is-built : build price worked.lines (wants q) (fill price worked.lines (wants q) 729) 6 0 ≡ t) where
-  best : BestTree (wants q) (line_in price worked.lines (wants q) (fill price worked.lines (wants q) 729)) 0 t
-  best = subst (BestTree (wants q) (line_in price worked.lines (wants q) (fill price worked.lines (wants q) 729)) 0) is-built (built price worked.lines (wants q) 729 refl)
+-- the best cost and line of each cell, for a state by a measure
+abbrev table : Price → ℕ → List Best
+table price q = fill price worked.lines (wants q) 729
 
-  -- the tree that the table gives is the fitted one, at its own cost
-  built_fitted : Fitted price worked q t (cost_of price worked.lines 6 t)
-  built_fitted = subst (Fitted price worked q t) (sym (best_costs price worked q (wants q) costs chosen law worked_well (wanted q) bests t best))
-      (best_fitted price worked q (wants q) costs chosen law worked_well (wanted q) bests t best)
-    where
-      costs : ℕ → ℕ
-      costs = cost_in price worked.lines (wants q) (fill price worked.lines (wants q) 729)
+-- the tree that the table gives
+abbrev made : Price → ℕ → Tree
+made price q = build price worked.lines (wants q) (table price q) 6 0
 
-      chosen : ℕ → ℕ
-      chosen = line_in price worked.lines (wants q) (fill price worked.lines (wants q) 729)
+-- is the fitted one, at its own cost
+made_fitted : (price : Price) → Lawful price → (q : ℕ) (t : Tree) → made price q ≡ t → Fitted price worked q t (cost_of price worked.lines 6 t)
+made_fitted price law q t is-made =
+    let costs = cost_in price worked.lines (wants q) (table price q) in
+    let chosen = line_in price worked.lines (wants q) (table price q) in
+    let bests = fill_bests price worked.lines (wants q) 729 refl in
+    let best = subst (BestTree (wants q) chosen 0) is-made (built price worked.lines (wants q) 729 refl) in
+    subst (Fitted price worked q t) (sym (best_costs price worked q (wants q) costs chosen law worked_well (wanted q) bests t best))
+    (best_fitted price worked q (wants q) costs chosen law worked_well (wanted q) bests t best)
 
-      bests : Bests price worked.lines (wants q) costs chosen
-      bests = fill_bests price worked.lines (wants q) 729 refl
-
-expected_built_0 : build expected worked.lines (wants 0) (fill expected worked.lines (wants 0) 729) 6 0 ≡ by_expected
+expected_made : EachBelow 4 (λ q. made expected q ≡ tree_of worked_trees q)
 unfolding fill wants has set_of covers lowest free_in
-expected_built_0 = refl
+expected_made = refl & refl & refl & refl & tt
 
-expected_built_1 : build expected worked.lines (wants 1) (fill expected worked.lines (wants 1) 729) 6 0 ≡ kept_by3 2
+worst_made : made worst 0 ≡ by_worst
 unfolding fill wants has set_of covers lowest free_in
-expected_built_1 = refl
+worst_made = refl
 
-expected_built_2 : build expected worked.lines (wants 2) (fill expected worked.lines (wants 2) 729) 6 0 ≡ kept_by3 4
-unfolding fill wants has set_of covers lowest free_in
-expected_built_2 = refl
-
-expected_built_3 : build expected worked.lines (wants 3) (fill expected worked.lines (wants 3) 729) 6 0 ≡ kept_by3 8
-unfolding fill wants has set_of covers lowest free_in
-expected_built_3 = refl
-
-worst_built : build worst worked.lines (wants 0) (fill worst worked.lines (wants 0) 729) 6 0 ≡ by_worst
-unfolding fill wants has set_of covers lowest free_in
-worst_built = refl
-
--- by expected cost the first state's tree costs 30 times 10 ^ 12, and forks on line 1 first
-pub expected_fitted : Fitted expected worked 0 by_expected 30000000000000
-expected_fitted = built_fitted expected expected_lawful 0 by_expected expected_built_0
-
--- by worst cost it costs 35, and forks on line 0 first
+-- by worst cost the first state's tree costs 35, and forks on line 0 first
 pub worst_fitted : Fitted worst worked 0 by_worst 35
-worst_fitted = built_fitted worst worst_lawful 0 by_worst worst_built
+worst_fitted = made_fitted worst worst_lawful 0 by_worst worst_made
 
+-- by expected cost it costs 30 times 10 ^ 12, and forks on line 1 first
 pub worked_fitted : FittedAll expected worked worked_trees worked_costs
-worked_fitted = record { a_tree_each = refl; a_cost_each = refl; fitted = each }
+worked_fitted = record { a_tree_each = refl; a_cost_each = refl; fitted = each_below 4 (λ q. Fitted expected worked q (tree_of worked_trees q) (get_or worked_costs q 0)) each }
   where
-    each : (q : ℕ) → q < 4 → Fitted expected worked q (tree_of worked_trees q) (get_or worked_costs q 0)
-    each zero l = expected_fitted
-    each (suc zero) l = built_fitted expected expected_lawful 1 (kept_by3 2) expected_built_1
-    each (suc (suc zero)) l = built_fitted expected expected_lawful 2 (kept_by3 4) expected_built_2
-    each (suc (suc (suc zero))) l = built_fitted expected expected_lawful 3 (kept_by3 8) expected_built_3
-    each (suc (suc (suc (suc q)))) l = absurd (let no_way : ⊥ = omega arith in no_way)
+    each : EachBelow 4 (λ q. Fitted expected worked q (tree_of worked_trees q) (get_or worked_costs q 0))
+    each =
+        made_fitted expected expected_lawful 0 by_expected expected_made.0
+        & made_fitted expected expected_lawful 1 (kept_by3 2) expected_made.1.0
+        & made_fitted expected expected_lawful 2 (kept_by3 4) expected_made.1.1.0
+        & made_fitted expected expected_lawful 3 (kept_by3 8) expected_made.1.1.1.0
+        & tt
 
 pub worked_sound : Sound worked worked_trees
 worked_sound = fitted_sound expected worked worked_trees worked_costs worked_well (λ q. inr (worked_unsafe q)) worked_fitted
@@ -280,29 +230,29 @@ unfolding union_over has
 after_5_8_0 = taken worked worked_trees (5 ∷ 8 ∷ []) 10 verdict.Open 0 0 (verdict.BreachAt 3) after_5_8 (kept 0) (reads_breach worked 0 no_release 3)
 
 -- what five takes answer: OPEN, OPEN, BREACH at 3, and two refusals; they poll lines 1 and 2, then line 3, then line 3
-abbrev pub worked_answers : List Answer
+abbrev pub worked_answers : List (Result Answer Refusal)
 worked_answers =
-    answer.Taken verdict.Open 6
-    ∷ answer.Taken verdict.Open 8
-    ∷ answer.Taken (verdict.BreachAt 3) 8
-    ∷ answer.Refused refusal.Breached
-    ∷ answer.Refused refusal.Breached
+    take_gives verdict.Open 6
+    ∷ take_gives verdict.Open 8
+    ∷ take_gives (verdict.BreachAt 3) 8
+    ∷ Err refusal.Breached
+    ∷ Err refusal.Breached
     ∷ []
 
-take_5 : (later : List ℕ) → Taking worked worked_trees [] (5 ∷ later) (answer.Taken verdict.Open 6) (5 ∷ []) later
+take_5 : (later : List ℕ) → Taking worked worked_trees [] (5 ∷ later) (take_gives verdict.Open 6) (5 ∷ []) later
 unfolding union_over has
 take_5 later = take_taken worked worked_trees worked_sound [] 1 verdict.Open after_none 5 later 10 verdict.Open not_open (lit≤ tt) (kept 10) (still_open 1 10 (suc-ne-zero 9))
 
-take_8 : (later : List ℕ) → Taking worked worked_trees (5 ∷ []) (8 ∷ later) (answer.Taken verdict.Open 8) (5 ∷ 8 ∷ []) later
+take_8 : (later : List ℕ) → Taking worked worked_trees (5 ∷ []) (8 ∷ later) (take_gives verdict.Open 8) (5 ∷ 8 ∷ []) later
 unfolding union_over has
 take_8 later = take_taken worked worked_trees worked_sound (5 ∷ []) 10 verdict.Open after_5 8 later 10 verdict.Open not_open (lit≤ tt) (kept 10) (still_open 2 10 (suc-ne-zero 9))
 
-take_0 : (later : List ℕ) → Taking worked worked_trees (5 ∷ 8 ∷ []) (0 ∷ later) (answer.Taken (verdict.BreachAt 3) 8) (5 ∷ 8 ∷ 0 ∷ []) later
+take_0 : (later : List ℕ) → Taking worked worked_trees (5 ∷ 8 ∷ []) (0 ∷ later) (take_gives (verdict.BreachAt 3) 8) (5 ∷ 8 ∷ 0 ∷ []) later
 unfolding union_over has
 take_0 later = take_taken worked worked_trees worked_sound (5 ∷ 8 ∷ []) 10 verdict.Open after_5_8 0 later 0 (verdict.BreachAt 3) not_open (lit≤ tt) (kept 0) (reads_breach worked 0 no_release 3)
 
 -- once the breach stands, a take is refused
-take_no_more : (coming : List ℕ) → Taking worked worked_trees (5 ∷ 8 ∷ 0 ∷ []) coming (answer.Refused refusal.Breached) (5 ∷ 8 ∷ 0 ∷ []) coming
+take_no_more : (coming : List ℕ) → Taking worked worked_trees (5 ∷ 8 ∷ 0 ∷ []) coming (Err refusal.Breached) (5 ∷ 8 ∷ 0 ∷ []) coming
 take_no_more coming = take_breached worked worked_trees worked_sound (5 ∷ 8 ∷ 0 ∷ []) 0 (verdict.BreachAt 3) after_5_8_0 coming (3, refl)
 
 pub worked_calls : Promise expected worked worked_trees worked_costs (call.Take ∷ call.Take ∷ call.Take ∷ call.Take ∷ call.Take ∷ []) worked_log worked_answers (1 ∷ [])
@@ -319,7 +269,7 @@ worked_calls = record {
 }
 
 -- after event 5, rehearsing 8, 0, 64 finds a breach after 2 events
-pub worked_rehearsal : (coming : List ℕ) → Rehearsing worked worked_trees (5 ∷ []) coming (8 ∷ 0 ∷ 64 ∷ []) (answer.Tried word.Breach 2) (5 ∷ []) coming
+pub worked_rehearsal : (coming : List ℕ) → Rehearsing worked worked_trees (5 ∷ []) coming (8 ∷ 0 ∷ 64 ∷ []) (rehearsal_gives word.Breach 2) (5 ∷ []) coming
 unfolding union_over has
 worked_rehearsal coming =
     let t0 = tried_none worked worked_trees worked_sound (5 ∷ []) (8 ∷ 0 ∷ 64 ∷ []) 10 verdict.Open after_5 not_open in
@@ -328,7 +278,7 @@ worked_rehearsal coming =
     rehearse_breach_found worked worked_trees worked_sound (5 ∷ []) (8 ∷ 0 ∷ 64 ∷ []) 2 0 (verdict.BreachAt 3) t2 coming (3, refl)
 
 -- and rehearsing 8, 64 is refused at index 1
-pub worked_refusal : (coming : List ℕ) → Rehearsing worked worked_trees (5 ∷ []) coming (8 ∷ 64 ∷ []) (answer.Refused (refusal.NoEvent 1)) (5 ∷ []) coming
+pub worked_refusal : (coming : List ℕ) → Rehearsing worked worked_trees (5 ∷ []) coming (8 ∷ 64 ∷ []) (Err (refusal.NoEvent 1)) (5 ∷ []) coming
 unfolding union_over has
 worked_refusal coming =
     let t0 = tried_none worked worked_trees worked_sound (5 ∷ []) (8 ∷ 64 ∷ []) 10 verdict.Open after_5 not_open in
@@ -338,13 +288,13 @@ worked_refusal coming =
 -- the take of event 5 and both rehearsals, as calls of one watch
 pub worked_rehearsals : (first second : Bor (List ℕ)) (coming : List ℕ) → first.now ≡ 8 ∷ 0 ∷ 64 ∷ [] → second.now ≡ 8 ∷ 64 ∷ []
     → Promise expected worked worked_trees worked_costs (call.Take ∷ call.Rehearse first ∷ call.Rehearse second ∷ []) (5 ∷ coming)
-    (answer.Taken verdict.Open 6 ∷ answer.Tried word.Breach 2 ∷ answer.Refused (refusal.NoEvent 1) ∷ []) coming
+    (take_gives verdict.Open 6 ∷ rehearsal_gives word.Breach 2 ∷ Err (refusal.NoEvent 1) ∷ []) coming
 worked_rehearsals first second coming is-first is-second = record {
   fit = worked_fitted;
   taken = 5 ∷ [];
   answered =
       C.CallsAll.one_more (take_5 coming)
-      (C.CallsAll.one_more (subst (λ (tried : List ℕ). Rehearsing worked worked_trees (5 ∷ []) coming tried (answer.Tried word.Breach 2) (5 ∷ []) coming) (sym is-first) (worked_rehearsal coming))
-      (C.CallsAll.one_more (subst (λ (tried : List ℕ). Rehearsing worked worked_trees (5 ∷ []) coming tried (answer.Refused (refusal.NoEvent 1)) (5 ∷ []) coming) (sym is-second) (worked_refusal coming))
+      (C.CallsAll.one_more (subst (λ (tried : List ℕ). Rehearsing worked worked_trees (5 ∷ []) coming tried (rehearsal_gives word.Breach 2) (5 ∷ []) coming) (sym is-first) (worked_rehearsal coming))
+      (C.CallsAll.one_more (subst (λ (tried : List ℕ). Rehearsing worked worked_trees (5 ∷ []) coming tried (Err (refusal.NoEvent 1)) (5 ∷ []) coming) (sym is-second) (worked_refusal coming))
       C.CallsAll.no_more));
 }

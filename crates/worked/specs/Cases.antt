@@ -17,14 +17,13 @@ use Rattle.rules.specs.declared.Verdict.TheVariants as verdict
 use Rattle.rules.specs.declared.Word.TheVariants as word
 use Rattle.rules.specs.declared.Call.TheVariants as call
 use Rattle.rules.specs.declared.Refusal.TheVariants as refusal
-use Rattle.rules.specs.declared.Answer.TheVariants as answer
 use Rattle.rules.specs.automata.Rules.{Rule, Event}
 use Rattle.rules.specs.trees.Trees.{Tree, leaf, fork}
 use Rattle.rules.specs.trees.Layouts.{layout}
 use Rattle.rules.specs.trees.Costs.{expected, worst}
 use Rattle.rules.specs.trees.Bests.{Fitted}
 use Rattle.rules.specs.watch.Verdicts.{Shows}
-use Rattle.rules.specs.watch.Calls.{Rehearsing, number_of, index_of}
+use Rattle.rules.specs.watch.Calls.{Rehearsing, number_of, index_of, take_gives, rehearsal_gives}
 use Rattle.rules.specs.watch.Promises.{FittedAll, Promise}
 use Rattle.rulefile.specs.File.{Contents, file_of}
 use Rattle.listing.specs.Prints.{rule_read, Prints}
@@ -193,9 +192,9 @@ pub record WorkedCases : Type 0 where
   -- and no other text is
   pub printed_alone : (text : List ℕ) → Prints (Some worked_bytes) (Some worked_log) text → text ≡ worked_text
   -- after event 5, rehearsing 8, 0 and 64 finds a breach after 2 events, whatever is still to come
-  pub rehearsed : (coming : List ℕ) → Rehearsing worked worked_trees (5 ∷ []) coming (8 ∷ 0 ∷ 64 ∷ []) (answer.Tried word.Breach 2) (5 ∷ []) coming
+  pub rehearsed : (coming : List ℕ) → Rehearsing worked worked_trees (5 ∷ []) coming (8 ∷ 0 ∷ 64 ∷ []) (rehearsal_gives word.Breach 2) (5 ∷ []) coming
   -- and rehearsing 8 and 64 is refused at index 1
-  pub rehearsal_refused : (coming : List ℕ) → Rehearsing worked worked_trees (5 ∷ []) coming (8 ∷ 64 ∷ []) (answer.Refused (refusal.NoEvent 1)) (5 ∷ []) coming
+  pub rehearsal_refused : (coming : List ℕ) → Rehearsing worked worked_trees (5 ∷ []) coming (8 ∷ 64 ∷ []) (Err (refusal.NoEvent 1)) (5 ∷ []) coming
   -- that refusal is told by 44
   pub refusal_number : number_of (refusal.NoEvent 1) ≡ 44
   -- and with the index 1
@@ -203,7 +202,7 @@ pub record WorkedCases : Type 0 where
   -- the take and both rehearsals, as calls of one watch newly armed
   pub rehearsals : (first second : Bor (List ℕ)) (coming : List ℕ) → first.now ≡ 8 ∷ 0 ∷ 64 ∷ [] → second.now ≡ 8 ∷ 64 ∷ []
       → Promise expected worked worked_trees worked_costs (call.Take ∷ call.Rehearse first ∷ call.Rehearse second ∷ []) (5 ∷ coming)
-      (answer.Taken verdict.Open 6 ∷ answer.Tried word.Breach 2 ∷ answer.Refused (refusal.NoEvent 1) ∷ []) coming
+      (take_gives verdict.Open 6 ∷ rehearsal_gives word.Breach 2 ∷ Err (refusal.NoEvent 1) ∷ []) coming
   -- the first small rule, by its file
   pub clearing_read : ReadAs clearing_bytes clearing
   -- start 0, accepting 1, moves (0, 0, 0), (0, 1, 1), (1, 0, 1): CLEAR since 0

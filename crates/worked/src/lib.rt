@@ -3,6 +3,8 @@
 
 pub mod cases;
 #[cfg(test)]
+mod drafts;
+#[cfg(test)]
 mod small;
 #[cfg(test)]
 mod trees;
@@ -10,14 +12,14 @@ mod trees;
 #[cfg(test)]
 mod tests {
     use codec::fault::Report;
-    use codec::number::read_number;
+    use codec::reader::Reader;
     use events::events_of;
     use listing::output::output;
     use rulefile::card::Card;
     use rulefile::check::check_rule;
     use rulefile::draft::make::make_draft;
-    use rulefile::record::{Name, StateRecord};
-    use rules::{Move, State};
+    use rulefile::record::StateRecord;
+    use rules::Move;
     use std::test::Fail;
 
     // The worked rule: three named lines and three nameless ones, four states and seven moves.
@@ -32,35 +34,21 @@ mod tests {
     // Two line cards and no more.
     const TWO_LINES: [u8; 9] = [1, 10, 20, 1, 97, 5, 50, 1, 98];
 
-    pub(crate) const NO_STATE: StateRecord = StateRecord {
-        state: State {
-            start: false,
-            accepting: false,
-        },
-        name: Name { at: 0, len: 0 },
-    };
-
-    pub(crate) const NO_MOVE: Move = Move {
-        from: 0,
-        cell: 0,
-        to: 0,
-    };
-
     // What a fault tells of the number at the front of the bytes, or nothing where it is read.
     fn number_fault(bytes: &[u8]) -> Option<Report> {
-        match read_number(bytes, 0) {
-            Ok(_) => None,
-            Err(fault) => Some(fault.report()),
-        }
+        let mut reader = Reader { bytes, at: 0 };
+        reader.read_number().err().map(|fault| fault.report())
     }
 
     #[test]
     fn numbers(rt: HostRuntime) -> Result<(), Fail> {
-        let Ok(read) = read_number(&[0xe6, 0x03], 0) else {
-            return Err(Fail::new("a number is refused"));
+        let mut reader = Reader {
+            bytes: &[0xe6, 0x03],
+            at: 0,
         };
-        assert_eq!(rt; read.value, 486);
-        assert_eq!(rt; read.next, 2);
+        let number = reader.read_number().ok().ok_or("a number is refused")?;
+        assert_eq!(rt; number, 486);
+        assert_eq!(rt; reader.at, 2);
         let long = number_fault(&[0x80, 0x00]).ok_or("read")?;
         assert_eq!(rt; long.number, 12);
         assert_eq!(rt; long.place, 0);
@@ -81,23 +69,23 @@ mod tests {
 
     #[test]
     fn worked_rule(rt: HostRuntime) -> Result<(), Fail> {
-        let mut states = [NO_STATE; 32];
-        let mut moves = [NO_MOVE; 1024];
-        let Ok(counts) = check_rule(&RULE, &mut states, &mut moves) else {
-            return Err(Fail::new("the worked rule is refused"));
-        };
+        let mut states = [StateRecord::default(); 32];
+        let mut moves = [Move::default(); 1024];
+        let counts = check_rule(&RULE, &mut states, &mut moves)
+            .ok()
+            .ok_or("the worked rule is refused")?;
         assert_eq!(rt; counts.states, 4);
         assert_eq!(rt; counts.moves, 7);
         let draft = make_draft(&RULE, &states, &moves);
         let Some(Card::Line(line)) = draft.card(1) else {
             return Err(Fail::new("card 1 is a line"));
         };
-        assert_eq!(rt; line.line.cost, 5);
+        assert_eq!(rt; line.value.cost, 5);
         assert!(rt; line.name == b"b".as_slice());
         let Some(Card::State(state)) = draft.card(6) else {
             return Err(Fail::new("card 6 is a state"));
         };
-        assert!(rt; state.state.start && !state.state.accepting);
+        assert!(rt; state.value.start && !state.value.accepting);
         let Some(Card::Move(last)) = draft.card(16) else {
             return Err(Fail::new("card 16 is a move"));
         };
@@ -108,16 +96,16 @@ mod tests {
 
     #[test]
     fn short_lists(rt: HostRuntime) -> Result<(), Fail> {
-        let mut few_states = [NO_STATE; 31];
-        let mut states = [NO_STATE; 32];
-        let mut few_moves = [NO_MOVE; 1023];
-        let Err(first) = check_rule(&[], &mut few_states, &mut few_moves) else {
-            return Err(Fail::new("31 state records are enough"));
-        };
+        let mut few_states = [StateRecord::default(); 31];
+        let mut states = [StateRecord::default(); 32];
+        let mut few_moves = [Move::default(); 1023];
+        let first = check_rule(&[], &mut few_states, &mut few_moves)
+            .err()
+            .ok_or("31 state records are enough")?;
         assert_eq!(rt; first.number(), 21);
-        let Err(second) = check_rule(&[], &mut states, &mut few_moves) else {
-            return Err(Fail::new("1,023 move records are enough"));
-        };
+        let second = check_rule(&[], &mut states, &mut few_moves)
+            .err()
+            .ok_or("1,023 move records are enough")?;
         assert_eq!(rt; second.number(), 22);
         Ok(())
     }
@@ -125,20 +113,19 @@ mod tests {
     // The check wrote no record, so the making gives the draft of one nameless start state and no moves.
     #[test]
     fn lists_not_written(rt: HostRuntime) -> Result<(), Fail> {
-        let states = [NO_STATE; 32];
-        let moves = [NO_MOVE; 1024];
+        let states = [StateRecord::default(); 32];
+        let moves = [Move::default(); 1024];
         let draft = make_draft(&RULE, &states, &moves);
         assert_eq!(rt; draft.states().len(), 1);
         assert_eq!(rt; draft.moves().len(), 0);
         let only = draft.state(0).ok_or("no state")?;
-        assert!(rt; only.state.start && only.name.is_empty());
+        assert!(rt; only.value.start && only.name.is_empty());
         Ok(())
     }
 
     // What the program prints of these files; nothing where there is no memory.
     fn printed(rt: &HostRuntime, rule: Option<&[u8]>, log: Option<&[u8]>) -> Result<String, Fail> {
-        let text = output(rt.alloc(), rule, log)?;
-        Ok(text)
+        Ok(output(rt.alloc(), rule, log)?)
     }
 
     #[test]

@@ -1,10 +1,7 @@
 // Small rules: their live and safe states, release state and pruned sets.
+use crate::drafts::with_draft;
 use pruning::Pruning;
-use rulefile::check::check_rule;
 use rulefile::draft::Draft;
-use rulefile::draft::make::make_draft;
-use rulefile::record::{Name, StateRecord};
-use rules::{Move, State};
 use std::test::Fail;
 
 // Start 0, accepting 1; each state has a move on every event to a live one.
@@ -39,68 +36,104 @@ const DRAWN_SAFE: [u8; 55] = [
     1, 1, 0, 1, 3, 0, 2, 0, 0, 2, 2, 1, 0, 1, 2, 2, 2, 3, 0, 3, 4, 0, 1,
 ];
 
-// What is told of a draft: live, safe, the release state or 99, and the pruned sets of states 0 and 1 at the events 0 and 1.
-fn told_of(draft: &Draft) -> [u32; 7] {
-    let p = Pruning::of(draft);
-    let release = match p.release() {
-        Some(r) => r as u32,
-        None => 99,
-    };
-    let sets = p.sets(1);
-    [
-        p.live(),
-        p.safe(),
-        release,
-        p.set_at(0, 0),
-        p.set_at(0, 1),
-        sets[0],
-        sets[1],
-    ]
+// What is told of a draft: its live and safe states, its release state, and the pruned sets of the states 0 and 1 at the events 0 and 1.
+#[derive(Clone, Copy, Debug, PartialEq, Eq)]
+struct Told {
+    live: u32,
+    safe: u32,
+    release: Option<u8>,
+    of_0: [u32; 2],
+    of_1: [u32; 2],
 }
 
-// Reads a rule, and tells of its draft.
-macro_rules! told {
-    ($file:expr) => {{
-        let mut states = [StateRecord { state: State { start: false, accepting: false }, name: Name { at: 0, len: 0 } }; 32];
-        let mut moves = [Move { from: 0, cell: 0, to: 0 }; 1024];
-        let _ = check_rule($file, &mut states, &mut moves);
-        let draft = make_draft($file, &states, &moves);
-        told_of(&draft)
-    }};
+impl Told {
+    fn of(draft: &Draft) -> Told {
+        let pruning = Pruning::of(draft);
+        let sets = pruning.sets(1);
+        Told {
+            live: pruning.live(),
+            safe: pruning.safe(),
+            release: pruning.release(),
+            of_0: [pruning.set_at(0, 0), pruning.set_at(0, 1)],
+            of_1: [sets[0], sets[1]],
+        }
+    }
 }
 
 #[test]
 fn both_safe(rt: HostRuntime) -> Result<(), Fail> {
-    assert_eq!(rt; told!(&BOTH_SAFE), [3, 3, 0, 1, 1, 0, 0]);
+    let told = Told {
+        live: 3,
+        safe: 3,
+        release: Some(0),
+        of_0: [1, 1],
+        of_1: [0, 0],
+    };
+    assert_eq!(rt; with_draft(&BOTH_SAFE, Told::of), told);
     Ok(())
 }
 
 #[test]
 fn first_safe(rt: HostRuntime) -> Result<(), Fail> {
-    assert_eq!(rt; told!(&FIRST_SAFE), [3, 1, 0, 1, 1, 0, 1]);
+    let told = Told {
+        live: 3,
+        safe: 1,
+        release: Some(0),
+        of_0: [1, 1],
+        of_1: [0, 1],
+    };
+    assert_eq!(rt; with_draft(&FIRST_SAFE, Told::of), told);
     Ok(())
 }
 
 #[test]
 fn all_dead(rt: HostRuntime) -> Result<(), Fail> {
-    assert_eq!(rt; told!(&ALL_DEAD), [0, 0, 99, 0, 0, 0, 0]);
+    let told = Told {
+        live: 0,
+        safe: 0,
+        release: None,
+        of_0: [0, 0],
+        of_1: [0, 0],
+    };
+    assert_eq!(rt; with_draft(&ALL_DEAD, Told::of), told);
     Ok(())
 }
 
 #[test]
 fn none_safe(rt: HostRuntime) -> Result<(), Fail> {
-    assert_eq!(rt; told!(&NONE_SAFE), [3, 0, 99, 0, 3, 3, 0]);
+    let told = Told {
+        live: 3,
+        safe: 0,
+        release: None,
+        of_0: [0, 3],
+        of_1: [3, 0],
+    };
+    assert_eq!(rt; with_draft(&NONE_SAFE, Told::of), told);
     Ok(())
 }
 
 #[test]
 fn drawn(rt: HostRuntime) -> Result<(), Fail> {
-    assert_eq!(rt; told!(&DRAWN), [23, 18, 1, 4, 2, 2, 2]);
+    let told = Told {
+        live: 23,
+        safe: 18,
+        release: Some(1),
+        of_0: [4, 2],
+        of_1: [2, 2],
+    };
+    assert_eq!(rt; with_draft(&DRAWN, Told::of), told);
     Ok(())
 }
 
 #[test]
 fn drawn_safe(rt: HostRuntime) -> Result<(), Fail> {
-    assert_eq!(rt; told!(&DRAWN_SAFE), [23, 19, 0, 1, 1, 0, 0]);
+    let told = Told {
+        live: 23,
+        safe: 19,
+        release: Some(0),
+        of_0: [1, 1],
+        of_1: [0, 0],
+    };
+    assert_eq!(rt; with_draft(&DRAWN_SAFE, Told::of), told);
     Ok(())
 }

@@ -17,53 +17,36 @@ pub struct Sets {
     pub release: u32,
 }
 
-// The top place that is kept for a state, and 0 past the 32 places.
-fn top_in(tops: &[u16; 32], state: u8) -> u16
-    ensures is { state < 32 → result ≡ slice_index tops.now state }
-    ensures past { 32 ≤ state → result ≡ 0 }
-{
-    if state < 32 { tops[state as usize] } else { 0 }
-}
-
 impl<'a> Plan<'a> {
     // The nodes.
     pub fn nodes(&self) -> &'a [Node]
         ensures { result.now ≡ self.now.nodes.now }
     {
-        let nodes: &'a [Node] = self.nodes;
-        nodes
+        self.nodes
     }
 
-    // The place of a state's top node, and 0 past the 32 places. The tree that stands there serves the state.
+    // The place of a state's top node, and 0 past the 32 places. The tree that stands there serves the state. A place and no `Option`, since the call
+    // answers every number, and the fixed table has a place for each of 32.
     pub fn top(&self, state: u8) -> u16
         ensures is { state < 32 → result ≡ slice_index self.now.tops state }
         ensures past { 32 ≤ state → result ≡ 0 }
         ensures stands { state < length (rule_of self.now.draft).states → Stands self.now.nodes.now result (tree_of (plan_trees self.now) state) }
         ensures sound { Sound (rule_of self.now.draft) (plan_trees self.now) }
     {
-        top_in(&self.tops, state)
+        self.tops.get(state as usize).copied().unwrap_or(0)
     }
 
     // The six lines.
     pub fn lines(&self) -> [Line; 6]
         ensures { result ≡ (rule_of self.now.draft).lines }
     {
-        let lines = self.lines;
-        lines
+        self.lines
     }
 
     // The sets of states.
     pub fn sets(&self) -> Sets
-        ensures live { result.live ≡ self.now.live }
-        ensures safe { result.safe ≡ self.now.safe }
-        ensures starts { result.starts ≡ self.now.starts }
-        ensures release { result.release ≡ self.now.release }
+        ensures { result ≡ self.now.sets }
     {
-        Sets {
-            live: self.live,
-            safe: self.safe,
-            starts: self.starts,
-            release: self.release,
-        }
+        self.sets
     }
 }

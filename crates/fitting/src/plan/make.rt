@@ -1,68 +1,24 @@
 // The making of a plan from a draft and the nodes that fitting wrote. It is total: where something is off, it gives the plan of the one-state draft.
-ghost use Rattle.std.specs.Prelude.{◌≡◌, ◌^◌, ◌<◌, ◌≤◌, true, false, map, length, take, replicate, IfSome, if◌then◌else◌, Decides, ◌≢◌, bit_or};
+ghost use Rattle.std.specs.Prelude.{◌≡◌, MatchOption};
+ghost use Rattle.rules.specs.trees.Costs.{Price, Lawful};
 ghost use Rattle.rulefile.specs.Draft.{contents_of, empty_contents};
 ghost use Rattle.pruning.specs.Drafts.{rule_of};
 ghost use Rattle.fitting.specs.declared.fit.Fitting.{Fitting};
-ghost use Rattle.fitting.specs.Reading.{start_states, as_set, Walkable, GivesPruned};
+ghost use Rattle.fitting.specs.Reading.{Walkable, GivesPruned};
 ghost use Rattle.fitting.specs.Plans.{AsFitted, PlanOf, one_state, one_leaf};
 
-use crate::fit::{fit_states, has_room, lines_of};
+use crate::fit::{Fitting, NODES, fit_states};
 use crate::measure::Measure;
 use crate::plan::Plan;
+use crate::plan::access::Sets;
 use pruning::Pruning;
+use pruning::states::only;
 use rulefile::draft::Draft;
 use rulefile::draft::make::make_draft;
-use rulefile::record::StateRecord;
 use rules::Node;
 
 // The one tree of the one-state plan.
 static LEAF: [Node; 1] = [Node::Leaf { set: 0 }];
-
-// The set of one state.
-fn only(state: u8) -> u32
-    requires { state < 32 }
-    ensures { result ≡ 2 ^ state }
-{
-    1 << state
-}
-
-// The set with a state put in where a test holds.
-fn put_if(test: bool, state: u8, set: u32) -> u32
-    requires { state < 32 }
-    ensures { result ≡ (if test then bit_or (2 ^ state) set else set) }
-{
-    if test { only(state) | set } else { set }
-}
-
-// The start states among the records.
-fn start_states(states: &[StateRecord]) -> u32
-    requires { length states.now ≤ 32 }
-    ensures { result ≡ start_states (map (λ s. s.state) states.now) }
-{
-    let mut set = 0;
-    for (q, record) in states.iter().enumerate() {
-        set = put_if(record.state.start, q as u8, set);
-    }
-    set
-}
-
-// The start states of a draft.
-fn starts_of(draft: &Draft) -> u32
-    ensures { result ≡ start_states (rule_of draft.now).states }
-{
-    start_states(draft.states())
-}
-
-// A state as a set, and none as the empty set.
-fn as_set(state: Option<u8>) -> u32
-    requires { IfSome state (λ q. q < 32) }
-    ensures { result ≡ as_set state }
-{
-    match state {
-        Some(q) => only(q),
-        None => 0,
-    }
-}
 
 // The plan of a draft over nodes that hold its trees at the tops.
 fn plan_of<'a>(draft: Draft<'a>, nodes: &'a [Node], tops: [u16; 32]) -> Plan<'a>
@@ -73,20 +29,19 @@ fn plan_of<'a>(draft: Draft<'a>, nodes: &'a [Node], tops: [u16; 32]) -> Plan<'a>
     ensures tops { result.tops ≡ tops }
 {
     let pruning = Pruning::of(&draft);
-    let live = pruning.live();
-    let safe = pruning.safe();
-    let release = as_set(pruning.release());
-    let starts = starts_of(&draft);
-    let lines = lines_of(&draft);
+    let sets = Sets {
+        live: pruning.live(),
+        safe: pruning.safe(),
+        starts: pruning.starts(),
+        release: pruning.release().map_or(0, only),
+    };
+    let lines = draft.lines();
     Plan {
         draft,
         nodes,
         tops,
         lines,
-        live,
-        safe,
-        starts,
-        release,
+        sets,
     }
 }
 
@@ -101,47 +56,21 @@ fn one_state_draft() -> Draft<'static>
 // The plan of the one-state draft.
 fn one_state_plan() -> Plan<'static>
     ensures contents { contents_of result.draft ≡ empty_contents }
-    ensures nodes { result.nodes.now ≡ one_leaf }
-    ensures tops { result.tops ≡ replicate 32 0 }
+    ensures plan { (price : Price) → Lawful price → PlanOf price one_state one_leaf result }
 {
     plan_of(one_state_draft(), &LEAF, [0; 32])
 }
 
-// Whether two nodes are the same.
-fn equal_nodes(a: Node, b: Node) -> bool
-    ensures { Decides result (a ≡ b) }
+// What fitting tells of a draft, where the nodes are as it leaves them.
+fn as_fitted<M: Measure>(measure: &M, draft: &Draft, nodes: &[Node]) -> Option<Fitting>
+    ensures { MatchOption result ((told : Fitting) → AsFitted (M.price measure.now) (rule_of draft.now) nodes.now told → ⊥) (AsFitted (M.price measure.now) (rule_of draft.now) nodes.now) }
 {
-    match (a, b) {
-        (
-            Node::Fork {
-                line: i,
-                on: p,
-                off: q,
-            },
-            Node::Fork {
-                line: j,
-                on: s,
-                off: t,
-            },
-        ) => i == j && p == s && q == t,
-        (Node::Leaf { set: x }, Node::Leaf { set: y }) => x == y,
-        _ => false,
+    if nodes.len() < NODES {
+        return None;
     }
-}
-
-// Whether two lists have the same first nodes.
-fn same_front(a: &[Node], b: &[Node], count: usize) -> bool
-    requires a { count ≤ length a.now }
-    requires b { count ≤ length b.now }
-    ensures yes { result ≡ true → take count a.now ≡ take count b.now }
-    ensures not { result ≡ false → take count a.now ≢ take count b.now }
-{
-    for i in 0..count {
-        if !equal_nodes(a[i], b[i]) {
-            return false;
-        }
-    }
-    true
+    let mut scratch = [Node::Leaf { set: 0 }; NODES];
+    let told = fit_states(measure, draft, &mut scratch);
+    nodes.starts_with(&scratch[..told.behind]).then_some(told)
 }
 
 // The plan of a draft over nodes that are as fitting leaves them; else the plan of the one-state draft.
@@ -149,14 +78,8 @@ pub fn make_plan<'a, M: Measure>(measure: &M, draft: Draft<'a>, nodes: &'a [Node
     ensures taken { (told : Fitting) → AsFitted (M.price measure.now) (rule_of draft.entry) nodes.now told → (contents_of result.draft ≡ contents_of draft.entry) × PlanOf (M.price measure.now) (rule_of draft.entry) nodes.now result }
     ensures refused { ((told : Fitting) → AsFitted (M.price measure.now) (rule_of draft.entry) nodes.now told → ⊥) → (contents_of result.draft ≡ empty_contents) × PlanOf (M.price measure.now) one_state one_leaf result }
 {
-    if !has_room(nodes.len()) {
+    let Some(told) = as_fitted(measure, &draft, nodes) else {
         return one_state_plan();
-    }
-    let mut scratch = [Node::Leaf { set: 0 }; 4064];
-    let told = fit_states(measure, &draft, &mut scratch);
-    if !same_front(&scratch, nodes, told.behind) {
-        return one_state_plan();
-    }
-    let tops = told.tops;
-    plan_of(draft, nodes, tops)
+    };
+    plan_of(draft, nodes, told.tops())
 }

@@ -4,6 +4,7 @@ ghost use Rattle.pruning.specs.Drafts.{rule_of};
 ghost use Rattle.pruning.specs.Computed.{live_states, safe_states};
 ghost use Rattle.fitting.specs.Reading.{start_states, release_set, Walkable, GivesPruned};
 
+use access::Sets;
 use rulefile::draft::Draft;
 use rules::{Line, Node};
 
@@ -18,15 +19,12 @@ pub struct Plan<'a> {
     nodes: &'a [Node],
     tops: [u16; 32],
     lines: [Line; 6],
-    live: u32,
-    safe: u32,
-    starts: u32,
-    release: u32,
+    sets: Sets,
     ghost lines_are: { lines ≡ (rule_of draft).lines },
-    ghost live_is: { live ≡ live_states (rule_of draft) },
-    ghost safe_is: { safe ≡ safe_states (rule_of draft) },
-    ghost starts_are: { starts ≡ start_states (rule_of draft).states },
-    ghost release_is: { release ≡ release_set (rule_of draft) },
+    ghost live_is: { sets.live ≡ live_states (rule_of draft) },
+    ghost safe_is: { sets.safe ≡ safe_states (rule_of draft) },
+    ghost starts_are: { sets.starts ≡ start_states (rule_of draft).states },
+    ghost release_is: { sets.release ≡ release_set (rule_of draft) },
     ghost walkable: { Walkable (rule_of draft) nodes.now tops },
     ghost pruned: { GivesPruned (rule_of draft) nodes.now tops },
 }

@@ -1,45 +1,39 @@
 // What a draft tells: its lines, states and moves, with their names, card by card.
-ghost use Rattle.std.specs.Prelude.{◌≡◌, length, take, drop};
+ghost use Rattle.std.specs.Prelude.{◌≡◌, length, map};
 ghost use Rattle.std.specs.List.{slice_get};
-ghost use Rattle.rulefile.specs.Card.{line_value, state_value};
-ghost use Rattle.rulefile.specs.Rule.{name_in, line_in, state_in};
-ghost use Rattle.rulefile.specs.Draft.{draft_rule, line_option, state_option, card_option, cards_of};
+ghost use Rattle.rulefile.specs.Records.{named_value};
+ghost use Rattle.rulefile.specs.Rule.{name_in, named_in};
+ghost use Rattle.rulefile.specs.Draft.{draft_rule, named_option, card_option, cards_of};
 
-use crate::card::{Card, LineCard, StateCard};
+use crate::card::{Card, LineCard, Named, StateCard};
 use crate::draft::Draft;
-use crate::record::{LineRecord, Name, StateRecord};
-use rules::Move;
+use crate::record::{LineRecord, Name, Record, StateRecord};
+use rules::{Line, Move};
 
-// The part of the file that begins at `at` and has `len` bytes, as far as the file has them.
-fn part<'a>(file: &'a [u8], at: usize, len: usize) -> &'a [u8]
-    ensures { result.now ≡ take len (drop at file.now) }
+// The bytes of a name that lies in the file, as far as the file has them.
+fn part<'a>(file: &'a [u8], name: Name) -> &'a [u8]
+    ensures { result.now ≡ name_in file.now name }
 {
-    let all = file.len();
-    let start = if at < all { at } else { all };
-    let end = if len < all - start { start + len } else { all };
-    &file[start..end]
+    let rest = &file[name.at.min(file.len())..];
+    &rest[..name.len.min(rest.len())]
 }
 
-// A line with its name, from its record.
-fn line_card<'a>(file: &'a [u8], line: LineRecord) -> LineCard<'a>
-    ensures { line_value result ≡ line_in file.now line }
+// A value with its name, from its record.
+fn named<'a, T: Copy>(file: &'a [u8], place: &Record<T>) -> Named<'a, T>
+    ensures { named_value result ≡ named_in file.now place.now }
 {
-    let name = part(file, line.name.at, line.name.len);
-    LineCard {
-        line: line.line,
+    let name = part(file, place.name);
+    Named {
+        value: place.value,
         name,
     }
 }
 
-// A state with its name, from its record.
-fn state_card<'a>(file: &'a [u8], state: StateRecord) -> StateCard<'a>
-    ensures { state_value result ≡ state_in file.now state }
+// A line without its name.
+fn line_of(card: LineRecord) -> Line
+    ensures { result ≡ card.value }
 {
-    let name = part(file, state.name.at, state.name.len);
-    StateCard {
-        state: state.state,
-        name,
-    }
+    card.value
 }
 
 impl<'a> Draft<'a> {
@@ -47,27 +41,28 @@ impl<'a> Draft<'a> {
     pub fn name(&self, name: Name) -> &'a [u8]
         ensures { result.now ≡ name_in self.now.file.now name }
     {
-        part(self.file, name.at, name.len)
+        part(self.file, name)
     }
 
     // The line with the number `i`, of 0 to 5.
     pub fn line(&self, i: usize) -> Option<LineCard<'a>>
-        ensures { line_option result ≡ slice_get (draft_rule self.now).lines i }
+        ensures { named_option result ≡ slice_get (draft_rule self.now).lines i }
     {
-        if i < 6 {
-            return Some(line_card(self.file, self.lines[i]));
-        }
-        None
+        self.lines.get(i).map(|line| named(self.file, line))
     }
 
     // The state with the number `i`, from 0.
     pub fn state(&self, i: usize) -> Option<StateCard<'a>>
-        ensures { state_option result ≡ slice_get (draft_rule self.now).states i }
+        ensures { named_option result ≡ slice_get (draft_rule self.now).states i }
     {
-        if i < self.states.len() {
-            return Some(state_card(self.file, self.states[i]));
-        }
-        None
+        self.states.get(i).map(|state| named(self.file, state))
+    }
+
+    // The six lines, without their names.
+    pub fn lines(&self) -> [Line; 6]
+        ensures { result ≡ map (λ l. l.value) (draft_rule self.now).lines }
+    {
+        self.lines.map(line_of)
     }
 
     // The records of the states, in their order.
@@ -90,17 +85,12 @@ impl<'a> Draft<'a> {
     pub fn card(&self, i: usize) -> Option<Card<'a>>
         ensures { card_option result ≡ slice_get (cards_of (draft_rule self.now)) i }
     {
-        if i < 6 {
-            return Some(Card::Line(line_card(self.file, self.lines[i])));
-        }
-        let past_lines = i - 6;
-        if past_lines < self.states.len() {
-            return Some(Card::State(state_card(self.file, self.states[past_lines])));
-        }
-        let past_states = past_lines - self.states.len();
-        if past_states < self.moves.len() {
-            return Some(Card::Move(self.moves[past_states]));
-        }
-        None
+        let Some(past_lines) = i.checked_sub(self.lines.len()) else {
+            return Some(Card::Line(self.line(i)?));
+        };
+        let Some(past_states) = past_lines.checked_sub(self.states.len()) else {
+            return Some(Card::State(self.state(past_lines)?));
+        };
+        Some(Card::Move(*self.moves.get(past_states)?))
     }
 }

@@ -1,5 +1,6 @@
 -- Over events that can come, a call's answer is determined, and so are the events taken and still to come after it.
-use Rattle.std.proofs.Common.{◌≡◌, ℕ, ◌^◌, ◌<◌, ◌≤◌, ◌⊎◌, List, [], ◌∷◌, ◌++◌, length, get_or, take, drop, sym, refl, ap, ◌∙◌, subst, ap₂, inl, inr, le_refl, lt_irrefl, suc-ne-zero, arith}
+use Rattle.std.proofs.Common.{◌≡◌, ℕ, ◌^◌, ◌<◌, ◌≤◌, ◌⊎◌, List, [], ◌∷◌, ◌++◌, length, get_or, take, sym, refl, ap, ◌∙◌, subst, ap₂, inl, inr, le_refl, arith}
+use Rattle.std.specs.Prelude.{Err, Result}
 use Rattle.std.specs.List.{AllByRecursion}
 use Rattle.std.proofs.lemmas.List.{get_or-take, length-take-le, take_all}
 use Rattle.std.proofs.lemmas.Bool.{cases_order, cases_lt}
@@ -8,14 +9,14 @@ use Rattle.rules.specs.declared.Verdict.TheVariants as verdict
 use Rattle.rules.specs.declared.Word.TheVariants as word
 use Rattle.rules.specs.declared.Call.{Call}
 use Rattle.rules.specs.declared.Call.TheVariants as call
+use Rattle.rules.specs.declared.Refusal.{Refusal}
 use Rattle.rules.specs.declared.Refusal.TheVariants as refusal
 use Rattle.rules.specs.declared.Answer.{Answer}
-use Rattle.rules.specs.declared.Answer.TheVariants as answer
 use Rattle.rules.specs.automata.Rules.{Rule, Event}
 use Rattle.rules.specs.trees.Trees.{Tree}
 use Rattle.rules.specs.watch.Verdicts.{Shows, Tells, IsBreach, TellsBreach, TellsNoBreach, word_of}
 use Rattle.rules.specs.watch.Holding.{leads_to, polls_of, Settled, StartSet, HeldFrom, Held, Polled}
-use Rattle.rules.specs.watch.Calls.{limit, Taking, TriedBefore, Rehearsing, Calls, CallsAll}
+use Rattle.rules.specs.watch.Calls.{limit, Taking, TriedBefore, Rehearsing, Calls, CallsAll, take_gives, look_gives, rehearsal_gives}
 use Rattle.rules.specs.watch.Calls as C
 use Rattle.events.proofs.SetLaws.{same_members}
 use Rattle.rules.proofs.automata.RunLaws.{all_++, release_one}
@@ -72,24 +73,12 @@ small_events rule xs h = h
 pub tells_shows : (rule : Rule) (trees : List Tree) (es : List ℕ) (v : Verdict) → AllByRecursion (λ e. e < 64) es → Tells rule trees es v → Shows rule es v
 tells_shows rule trees es v small tells = tells.shows (small_events rule es small)
 
-cons_head : (x y : ℕ) (xs ys : List ℕ) → x ∷ xs ≡ y ∷ ys → x ≡ y
-cons_head x y xs ys p = ap (λ (l : List ℕ). get_or l 0 0) p
-
-cons_tail : (x y : ℕ) (xs ys : List ℕ) → x ∷ xs ≡ y ∷ ys → xs ≡ ys
-cons_tail x y xs ys p = ap (λ (l : List ℕ). drop 1 l) p
-
-nil_cons : (y : ℕ) (ys : List ℕ) → [] ≡ y ∷ ys → ⊥
-nil_cons y ys p = suc-ne-zero (length ys) (sym (ap length p))
-
-abbrev pub Same : Answer → List ℕ → List ℕ → Answer → List ℕ → List ℕ → Type 0
+abbrev pub Same : Result Answer Refusal → List ℕ → List ℕ → Result Answer Refusal → List ℕ → List ℕ → Type 0
 Same a es coming b es' coming' = (a ≡ b) × (es ≡ es') × (coming ≡ coming')
 
 -- ---- take
 
-full_apart : (es : List ℕ) → length es ≡ limit → length es < limit → ⊥
-full_apart es p l = lt_irrefl limit (subst (λ (n : ℕ). n < limit) p l)
-
-pub taking_one : (rule : Rule) (trees : List Tree) (es coming : List ℕ) (a b : Answer) (es' es'' coming' coming'' : List ℕ) → AllByRecursion (Event rule) es → AllByRecursion (Event rule) coming
+pub taking_one : (rule : Rule) (trees : List Tree) (es coming : List ℕ) (a b : Result Answer Refusal) (es' es'' coming' coming'' : List ℕ) → AllByRecursion (Event rule) es → AllByRecursion (Event rule) coming
     → Taking rule trees es coming a es' coming' → Taking rule trees es coming b es'' coming'' → Same a es' coming' b es'' coming''
 taking_one rule trees es coming a b es' es'' coming' coming'' ok okc (C.Taking.breached x) (C.Taking.breached y) = (refl, refl, refl)
 taking_one rule trees es coming a b es' es'' coming' coming'' ok okc (C.Taking.breached x) (C.Taking.full y l) = absurd (apart rule trees es ok x y)
@@ -97,21 +86,21 @@ taking_one rule trees es coming a b es' es'' coming' coming'' ok okc (C.Taking.b
 taking_one rule trees es coming a b es' es'' coming' coming'' ok okc (C.Taking.breached x) (C.Taking.taken e t v ls y l c s p) = absurd (apart rule trees es ok x y)
 taking_one rule trees es coming a b es' es'' coming' coming'' ok okc (C.Taking.full x k) (C.Taking.breached y) = absurd (apart rule trees es ok y x)
 taking_one rule trees es coming a b es' es'' coming' coming'' ok okc (C.Taking.full x k) (C.Taking.full y l) = (refl, refl, refl)
-taking_one rule trees es coming a b es' es'' coming' coming'' ok okc (C.Taking.full x k) (C.Taking.nothing_waits y l c) = absurd (full_apart es k l)
-taking_one rule trees es coming a b es' es'' coming' coming'' ok okc (C.Taking.full x k) (C.Taking.taken e t v ls y l c s p) = absurd (full_apart es k l)
+taking_one rule trees es coming a b es' es'' coming' coming'' ok okc (C.Taking.full x k) (C.Taking.nothing_waits y l c) = absurd (omega arith)
+taking_one rule trees es coming a b es' es'' coming' coming'' ok okc (C.Taking.full x k) (C.Taking.taken e t v ls y l c s p) = absurd (omega arith)
 taking_one rule trees es coming a b es' es'' coming' coming'' ok okc (C.Taking.nothing_waits x k d) (C.Taking.breached y) = absurd (apart rule trees es ok y x)
-taking_one rule trees es coming a b es' es'' coming' coming'' ok okc (C.Taking.nothing_waits x k d) (C.Taking.full y l) = absurd (full_apart es l k)
+taking_one rule trees es coming a b es' es'' coming' coming'' ok okc (C.Taking.nothing_waits x k d) (C.Taking.full y l) = absurd (omega arith)
 taking_one rule trees es coming a b es' es'' coming' coming'' ok okc (C.Taking.nothing_waits x k d) (C.Taking.nothing_waits y l c) = (refl, refl, refl)
-taking_one rule trees es coming a b es' es'' coming' coming'' ok okc (C.Taking.nothing_waits x k d) (C.Taking.taken e t v ls y l c s p) = absurd (nil_cons e t (sym d ∙ c))
+taking_one rule trees es coming a b es' es'' coming' coming'' ok okc (C.Taking.nothing_waits x k d) (C.Taking.taken e t v ls y l c s p) = absurd cc
 taking_one rule trees es coming a b es' es'' coming' coming'' ok okc (C.Taking.taken e t v ls x k d s p) (C.Taking.breached y) = absurd (apart rule trees es ok y x)
-taking_one rule trees es coming a b es' es'' coming' coming'' ok okc (C.Taking.taken e t v ls x k d s p) (C.Taking.full y l) = absurd (full_apart es l k)
-taking_one rule trees es coming a b es' es'' coming' coming'' ok okc (C.Taking.taken e t v ls x k d s p) (C.Taking.nothing_waits y l c) = absurd (nil_cons e t (sym c ∙ d))
+taking_one rule trees es coming a b es' es'' coming' coming'' ok okc (C.Taking.taken e t v ls x k d s p) (C.Taking.full y l) = absurd (omega arith)
+taking_one rule trees es coming a b es' es'' coming' coming'' ok okc (C.Taking.taken e t v ls x k d s p) (C.Taking.nothing_waits y l c) = absurd cc
 taking_one rule trees es coming a b es' es'' coming' coming'' ok okc (C.Taking.taken e t v ls x k d s p) (C.Taking.taken e' t' v' ls' y l c s' p') =
-    let events : e ≡ e' = cons_head e e' t t' (sym d ∙ c) in
+    let events : e ≡ e' = cc in
     let all = all_++ (Event rule) es (e ∷ []) ok ((subst (AllByRecursion (Event rule)) d okc).0, tt) in
     let verdicts = tells_one rule trees (es ++ e ∷ []) v v' all s (subst (λ (n : ℕ). Tells rule trees (es ++ n ∷ []) v') (sym events) s') in
     let lines = polled_one rule trees es e ls ls' p (subst (λ (n : ℕ). Polled rule trees es n ls') (sym events) p') in
-    (ap₂ (λ (y : Verdict) (n : ℕ). answer.Taken y n) verdicts lines, ap (λ (n : ℕ). es ++ n ∷ []) events, cons_tail e e' t t' (sym d ∙ c))
+    (ap₂ (λ (y : Verdict) (n : ℕ). take_gives y n) verdicts lines, ap (λ (n : ℕ). es ++ n ∷ []) events, cc)
 
 -- ---- rehearse
 
@@ -170,7 +159,7 @@ module _ (rule : Rule) (trees : List Tree) (es tried : List ℕ) (ok : AllByRecu
   event_finished : (i : ℕ) → i < length tried → 63 < get_or tried i 0 → TriedBefore rule trees es tried (length tried) → ⊥
   event_finished i l above y = small_apart tried (length tried) i y.within l y.events above
 
-  pub rehearsing_one : (coming : List ℕ) (a b : Answer) (es' es'' coming' coming'' : List ℕ)
+  pub rehearsing_one : (coming : List ℕ) (a b : Result Answer Refusal) (es' es'' coming' coming'' : List ℕ)
       → Rehearsing rule trees es coming tried a es' coming' → Rehearsing rule trees es coming tried b es'' coming'' → Same a es' coming' b es'' coming''
   rehearsing_one coming a b es' es'' coming' coming'' (C.Rehearsing.breached x) (C.Rehearsing.breached y) = (refl, refl, refl)
   rehearsing_one coming a b es' es'' coming' coming'' (C.Rehearsing.breached x) (C.Rehearsing.breach_found k y t h) = absurd (apart rule trees es ok x y)
@@ -178,19 +167,19 @@ module _ (rule : Rule) (trees : List Tree) (es tried : List ℕ) (ok : AllByRecu
   rehearsing_one coming a b es' es'' coming' coming'' (C.Rehearsing.breached x) (C.Rehearsing.finished v y t h s) = absurd (apart rule trees es ok x y)
   rehearsing_one coming a b es' es'' coming' coming'' (C.Rehearsing.breach_found k x t h) (C.Rehearsing.breached y) = absurd (apart rule trees es ok y x)
   rehearsing_one coming a b es' es'' coming' coming'' (C.Rehearsing.breach_found k x t h) (C.Rehearsing.breach_found k' y t' h') =
-      (ap (λ (n : ℕ). answer.Tried word.Breach n) (breach_one k k' t h t' h'), refl, refl)
+      (ap (λ (n : ℕ). rehearsal_gives word.Breach n) (breach_one k k' t h t' h'), refl, refl)
   rehearsing_one coming a b es' es'' coming' coming'' (C.Rehearsing.breach_found k x t h) (C.Rehearsing.not_an_event i y t' h' l m) = absurd (breach_event k i t h t' h' m)
   rehearsing_one coming a b es' es'' coming' coming'' (C.Rehearsing.breach_found k x t h) (C.Rehearsing.finished v y t' h' s) = absurd (breach_finished k t h t' h')
   rehearsing_one coming a b es' es'' coming' coming'' (C.Rehearsing.not_an_event i x t h l m) (C.Rehearsing.breached y) = absurd (apart rule trees es ok y x)
   rehearsing_one coming a b es' es'' coming' coming'' (C.Rehearsing.not_an_event i x t h l m) (C.Rehearsing.breach_found k y t' h') = absurd (breach_event k i t' h' t h m)
   rehearsing_one coming a b es' es'' coming' coming'' (C.Rehearsing.not_an_event i x t h l m) (C.Rehearsing.not_an_event i' y t' h' l' m') =
-      (ap (λ (n : ℕ). answer.Refused (refusal.NoEvent n)) (event_one i i' t m t' m'), refl, refl)
+      (ap (λ (n : ℕ). Err (refusal.NoEvent n)) (event_one i i' t m t' m'), refl, refl)
   rehearsing_one coming a b es' es'' coming' coming'' (C.Rehearsing.not_an_event i x t h l m) (C.Rehearsing.finished v y t' h' s) = absurd (event_finished i l m t')
   rehearsing_one coming a b es' es'' coming' coming'' (C.Rehearsing.finished v x t h s) (C.Rehearsing.breached y) = absurd (apart rule trees es ok y x)
   rehearsing_one coming a b es' es'' coming' coming'' (C.Rehearsing.finished v x t h s) (C.Rehearsing.breach_found k y t' h') = absurd (breach_finished k t' h' t h)
   rehearsing_one coming a b es' es'' coming' coming'' (C.Rehearsing.finished v x t h s) (C.Rehearsing.not_an_event i y t' h' l m) = absurd (event_finished i l m t)
   rehearsing_one coming a b es' es'' coming' coming'' (C.Rehearsing.finished v x t h s) (C.Rehearsing.finished w y t' h' s') = (
-    ap (λ (u : Verdict). answer.Tried (word_of u) (length tried))
+    ap (λ (u : Verdict). rehearsal_gives (word_of u) (length tried))
         (tells_one rule trees (es ++ tried) v w (all_++ (Event rule) es tried ok (small_events rule tried (subst (AllByRecursion (λ e. e < 64)) all_tried t.events))) s s'),
     refl,
     refl,
@@ -198,16 +187,16 @@ module _ (rule : Rule) (trees : List Tree) (es tried : List ℕ) (ok : AllByRecu
 
 -- ---- any call
 
-pub calls_one : (rule : Rule) (trees : List Tree) (c : Call) (es coming : List ℕ) (a b : Answer) (es' es'' coming' coming'' : List ℕ) → AllByRecursion (Event rule) es → AllByRecursion (Event rule) coming
+pub calls_one : (rule : Rule) (trees : List Tree) (c : Call) (es coming : List ℕ) (a b : Result Answer Refusal) (es' es'' coming' coming'' : List ℕ) → AllByRecursion (Event rule) es → AllByRecursion (Event rule) coming
     → Calls rule trees c es coming a es' coming' → Calls rule trees c es coming b es'' coming'' → Same a es' coming' b es'' coming''
 calls_one rule trees call.Take es coming a b es' es'' coming' coming'' ok okc x y = taking_one rule trees es coming a b es' es'' coming' coming'' ok okc x y
 calls_one rule trees call.Look es coming a b es' es'' coming' coming'' ok okc (C.Looking.shown v s) (C.Looking.shown w s') =
-    (ap (λ (u : Verdict). answer.Shown u (length es)) (tells_one rule trees es v w ok s s'), refl, refl)
+    (ap (λ (u : Verdict). look_gives u (length es)) (tells_one rule trees es v w ok s s'), refl, refl)
 calls_one rule trees (call.Rehearse tried) es coming a b es' es'' coming' coming'' ok okc x y = rehearsing_one rule trees es tried.now ok coming a b es' es'' coming' coming'' x y
 calls_one rule trees call.Rearm es coming a b es' es'' coming' coming'' ok okc C.Rearming.armed C.Rearming.armed = (refl, refl, refl)
 
 -- after a call there are still only events that can come
-pub calls_events : (rule : Rule) (trees : List Tree) (c : Call) (es coming : List ℕ) (a : Answer) (es' coming' : List ℕ) → AllByRecursion (Event rule) es → AllByRecursion (Event rule) coming
+pub calls_events : (rule : Rule) (trees : List Tree) (c : Call) (es coming : List ℕ) (a : Result Answer Refusal) (es' coming' : List ℕ) → AllByRecursion (Event rule) es → AllByRecursion (Event rule) coming
     → Calls rule trees c es coming a es' coming' → AllByRecursion (Event rule) es' × AllByRecursion (Event rule) coming'
 calls_events rule trees call.Take es coming a es' coming' ok okc (C.Taking.breached x) = (ok, okc)
 calls_events rule trees call.Take es coming a es' coming' ok okc (C.Taking.full x k) = (ok, okc)
@@ -223,13 +212,13 @@ calls_events rule trees call.Rearm es coming a es' coming' ok okc C.Rearming.arm
 
 -- ---- any list of calls
 
-pub calls_all_events : (rule : Rule) (trees : List Tree) (calls : List Call) (es coming : List ℕ) (answers : List Answer) (es' coming' : List ℕ) → AllByRecursion (Event rule) es → AllByRecursion (Event rule) coming
+pub calls_all_events : (rule : Rule) (trees : List Tree) (calls : List Call) (es coming : List ℕ) (answers : List (Result Answer Refusal)) (es' coming' : List ℕ) → AllByRecursion (Event rule) es → AllByRecursion (Event rule) coming
     → CallsAll rule trees calls es coming answers es' coming' → AllByRecursion (Event rule) es' × AllByRecursion (Event rule) coming'
 calls_all_events rule trees [] es coming answers es' coming' ok okc C.CallsAll.no_more = (ok, okc)
 calls_all_events rule trees (c ∷ calls) es coming answers es' coming' ok okc (C.CallsAll.one_more {a = a} {answers = rest} {es₁ = e₁} {coming₁ = c₁} x xs) =
     let (ok', okc') = calls_events rule trees c es coming a e₁ c₁ ok okc x in calls_all_events rule trees calls e₁ c₁ rest es' coming' ok' okc' xs
 
-pub calls_all_one : (rule : Rule) (trees : List Tree) (calls : List Call) (es coming : List ℕ) (as₁ as₂ : List Answer) (es' es'' coming' coming'' : List ℕ) → AllByRecursion (Event rule) es → AllByRecursion (Event rule) coming
+pub calls_all_one : (rule : Rule) (trees : List Tree) (calls : List Call) (es coming : List ℕ) (as₁ as₂ : List (Result Answer Refusal)) (es' es'' coming' coming'' : List ℕ) → AllByRecursion (Event rule) es → AllByRecursion (Event rule) coming
     → CallsAll rule trees calls es coming as₁ es' coming' → CallsAll rule trees calls es coming as₂ es'' coming'' → (as₁ ≡ as₂) × (es' ≡ es'') × (coming' ≡ coming'')
 calls_all_one rule trees [] es coming as₁ as₂ es' es'' coming' coming'' ok okc C.CallsAll.no_more C.CallsAll.no_more = (refl, refl, refl)
 calls_all_one rule trees (c ∷ calls) es coming as₁ as₂ es' es'' coming' coming'' ok okc
@@ -238,4 +227,4 @@ calls_all_one rule trees (c ∷ calls) es coming as₁ as₂ es' es'' coming' co
     let (ok', okc') = calls_events rule trees c es coming a e₁ c₁ ok okc x in
     let ys' = subst (λ (l : List ℕ). CallsAll rule trees calls e₁ l answers' es'' coming'') (sym r) (subst (λ (l : List ℕ). CallsAll rule trees calls l c₂ answers' es'' coming'') (sym q) ys) in
     let (ps, qs, rs) = calls_all_one rule trees calls e₁ c₁ answers answers' es' es'' coming' coming'' ok' okc' xs ys' in
-    (ap₂ (λ (z : Answer) (zs : List Answer). z ∷ zs) p ps, qs, rs)
+    (ap₂ (λ (z : Result Answer Refusal) (zs : List (Result Answer Refusal)). z ∷ zs) p ps, qs, rs)

@@ -1,5 +1,6 @@
 -- Every call has an answer, whatever events come, where safety is decided, the trees serve their states and the start set is at hand.
 use Rattle.std.proofs.Common.{◌≡◌, ℕ, zero, suc, ◌+◌, ◌^◌, ◌<◌, ◌≤◌, ◌⊎◌, List, [], ◌∷◌, ◌++◌, length, get_or, refl, subst, inl, inr, le_antisymm, arith}
+use Rattle.std.specs.Prelude.{Ok, Err, Result}
 use Rattle.std.specs.List.{AllByRecursion}
 use Rattle.std.proofs.lemmas.List.{length-append}
 use Rattle.std.proofs.lemmas.Bool.{cases_eq, cases_lt}
@@ -8,6 +9,7 @@ use Rattle.rules.specs.declared.Verdict.TheVariants as verdict
 use Rattle.rules.specs.declared.Word.TheVariants as word
 use Rattle.rules.specs.declared.Call.{Call}
 use Rattle.rules.specs.declared.Call.TheVariants as call
+use Rattle.rules.specs.declared.Refusal.{Refusal}
 use Rattle.rules.specs.declared.Refusal.TheVariants as refusal
 use Rattle.rules.specs.declared.Answer.{Answer}
 use Rattle.rules.specs.declared.Answer.TheVariants as answer
@@ -18,7 +20,7 @@ use Rattle.rules.specs.automata.Pruning.{Release}
 use Rattle.rules.specs.trees.Trees.{Tree}
 use Rattle.rules.specs.watch.Verdicts.{Shows, TellsBreach, TellsNoBreach, Tells, IsBreach, word_of}
 use Rattle.rules.specs.watch.Holding.{leads_to, polls_of, Sound, Settled, StartSet, Held, Reads, Next, WatchesFrom, Watches, SafeDecided}
-use Rattle.rules.specs.watch.Calls.{limit, Rehearsing, Calls, CallsAll}
+use Rattle.rules.specs.watch.Calls.{limit, Rehearsing, Calls, CallsAll, take_gives, look_gives, rehearsal_gives}
 use Rattle.rules.specs.watch.Calls as C
 use Rattle.events.proofs.SetLaws.{dec∈, no_member, ∈_below}
 use Rattle.rules.proofs.automata.RunLaws.{reaches_ending, safe_reaches_live, safe_below, lowest_of, release_one}
@@ -117,56 +119,56 @@ module _ (rule : Rule) (trees : List Tree) (sound : Sound rule trees) (raw : ℕ
   -- ---- take
 
   abbrev pub Answered : Call → List ℕ → List ℕ → Type 0
-  Answered c es coming = (a : Answer) × ((es' : List ℕ) × ((coming' : List ℕ) × (length es' ≤ limit) × Calls rule trees c es coming a es' coming'))
+  Answered c es coming = (a : Result Answer Refusal) × ((es' : List ℕ) × ((coming' : List ℕ) × (length es' ≤ limit) × Calls rule trees c es coming a es' coming'))
 
   taking_some : (es coming : List ℕ) → length es ≤ limit → Answered call.Take es coming
   taking_some es coming l = let (held, (v, h)) = watches_some es in go held v h (breach_or_not v) (cases_lt (length es) limit) coming
     where
       go : (held : ℕ) (v : Verdict) → Watches rule trees es held v → IsBreach v ⊎ (IsBreach v → ⊥) → (length es < limit) ⊎ (limit ≤ length es) → (coming : List ℕ) → Answered call.Take es coming
-      go held v h (inl b) d coming = (answer.Refused refusal.Breached, (es, (coming, l, take_breached rule trees sound es held v h coming b)))
-      go held v h (inr nb) (inr full) coming = (answer.Refused refusal.Full, (es, (coming, l, take_full rule trees sound es held v h coming nb (le_antisymm l full))))
-      go held v h (inr nb) (inl room) [] = (answer.Refused refusal.NothingWaits, (es, ([], l, take_nothing_waits rule trees sound es held v h nb room)))
+      go held v h (inl b) d coming = (Err refusal.Breached, (es, (coming, l, take_breached rule trees sound es held v h coming b)))
+      go held v h (inr nb) (inr full) coming = (Err refusal.Full, (es, (coming, l, take_full rule trees sound es held v h coming nb (le_antisymm l full))))
+      go held v h (inr nb) (inl room) [] = (Err refusal.NothingWaits, (es, ([], l, take_nothing_waits rule trees sound es held v h nb room)))
       go held v h (inr nb) (inl room) (e ∷ coming) =
           let (next, settled) = settled_some rule sound.decided (leads_to trees held e) in
           let (w, reads) = next_some rule sound.decided (length es + 1) next v in
-          (answer.Taken w (polls_of trees held e), (es ++ e ∷ [], (coming, omega (arith, length-append es (e ∷ []), room), take_taken rule trees sound es held v h e coming next w nb room settled reads)))
+          (take_gives w (polls_of trees held e), (es ++ e ∷ [], (coming, omega (arith, length-append es (e ∷ []), room), take_taken rule trees sound es held v h e coming next w nb room settled reads)))
 
   -- ---- rehearse
 
   -- n events are still to be tried
   rehearse_from : (es coming tried : List ℕ) (n k held : ℕ) (v : Verdict) → n + k ≡ length tried → Tried rule trees sound es tried k held v → IsBreach v ⊎ (IsBreach v → ⊥)
-      → (a : Answer) × Rehearsing rule trees es coming tried a es coming
-  rehearse_from es coming tried n k held v split so_far (inl b) = (answer.Tried word.Breach k, rehearse_breach_found rule trees sound es tried k held v so_far coming b)
+      → (a : Result Answer Refusal) × Rehearsing rule trees es coming tried a es coming
+  rehearse_from es coming tried n k held v split so_far (inl b) = (rehearsal_gives word.Breach k, rehearse_breach_found rule trees sound es tried k held v so_far coming b)
   rehearse_from es coming tried zero k held v split so_far (inr nb) =
-      (answer.Tried (word_of v) (length tried), rehearse_finished rule trees sound es tried k held v so_far coming nb (omega arith))
+      (rehearsal_gives (word_of v) (length tried), rehearse_finished rule trees sound es tried k held v so_far coming nb (omega arith))
   rehearse_from es coming tried (suc n) k held v split so_far (inr nb) = go (cases_lt (get_or tried k 0) 64) (settled_some rule sound.decided (leads_to trees held (get_or tried k 0)))
       (λ next w h. rehearse_from es coming tried n (k + 1) next w (omega arith) h (breach_or_not w))
     where
       go : (get_or tried k 0 < 64) ⊎ (64 ≤ get_or tried k 0) → (next : ℕ) × Settled rule (leads_to trees held (get_or tried k 0)) next
-          → ((next : ℕ) (w : Verdict) → Tried rule trees sound es tried (k + 1) next w → (a : Answer) × Rehearsing rule trees es coming tried a es coming)
-          → (a : Answer) × Rehearsing rule trees es coming tried a es coming
+          → ((next : ℕ) (w : Verdict) → Tried rule trees sound es tried (k + 1) next w → (a : Result Answer Refusal) × Rehearsing rule trees es coming tried a es coming)
+          → (a : Result Answer Refusal) × Rehearsing rule trees es coming tried a es coming
       go (inl small) (next, settled) more =
           let (w, reads) = next_some rule sound.decided (length es + k + 1) next v in
           more next w (tried_more rule trees sound es tried k held v so_far next w nb (omega arith) small settled reads)
-      go (inr above) s more = (answer.Refused (refusal.NoEvent k), rehearse_not_an_event rule trees sound es tried k held v so_far coming nb (omega arith) above)
+      go (inr above) s more = (Err (refusal.NoEvent k), rehearse_not_an_event rule trees sound es tried k held v so_far coming nb (omega arith) above)
 
-  rehearsing_some : (es coming tried : List ℕ) → (a : Answer) × Rehearsing rule trees es coming tried a es coming
+  rehearsing_some : (es coming tried : List ℕ) → (a : Result Answer Refusal) × Rehearsing rule trees es coming tried a es coming
   rehearsing_some es coming tried = let (held, (v, h)) = watches_some es in go held v h (breach_or_not v)
     where
-      go : (held : ℕ) (v : Verdict) → Watches rule trees es held v → IsBreach v ⊎ (IsBreach v → ⊥) → (a : Answer) × Rehearsing rule trees es coming tried a es coming
-      go held v h (inl b) = (answer.Refused refusal.Breached, rehearse_breached rule trees sound es held v h coming tried b)
+      go : (held : ℕ) (v : Verdict) → Watches rule trees es held v → IsBreach v ⊎ (IsBreach v → ⊥) → (a : Result Answer Refusal) × Rehearsing rule trees es coming tried a es coming
+      go held v h (inl b) = (Err refusal.Breached, rehearse_breached rule trees sound es held v h coming tried b)
       go held v h (inr nb) = rehearse_from es coming tried (length tried) 0 held v (omega arith) (tried_none rule trees sound es tried held v h nb) (inr nb)
 
   -- ---- any call, and any list of calls
 
   pub calls_some : (c : Call) (es coming : List ℕ) → length es ≤ limit → Answered c es coming
   calls_some call.Take es coming l = taking_some es coming l
-  calls_some call.Look es coming l = let (held, (v, h)) = watches_some es in (answer.Shown v (length es), (es, (coming, l, looked rule trees sound es held v h coming)))
+  calls_some call.Look es coming l = let (held, (v, h)) = watches_some es in (look_gives v (length es), (es, (coming, l, looked rule trees sound es held v h coming)))
   calls_some (call.Rehearse tried) es coming l = let (a, r) = rehearsing_some es coming tried.now in (a, (es, (coming, l, r)))
-  calls_some call.Rearm es coming l = (answer.Armed, ([], (coming, omega arith, C.Rearming.armed)))
+  calls_some call.Rearm es coming l = (Ok answer.Armed, ([], (coming, omega arith, C.Rearming.armed)))
 
   pub calls_all_some : (calls : List Call) (es coming : List ℕ) → length es ≤ limit
-      → (answers : List Answer) × ((es' : List ℕ) × ((coming' : List ℕ) × CallsAll rule trees calls es coming answers es' coming'))
+      → (answers : List (Result Answer Refusal)) × ((es' : List ℕ) × ((coming' : List ℕ) × CallsAll rule trees calls es coming answers es' coming'))
   calls_all_some [] es coming l = ([], (es, (coming, C.CallsAll.no_more)))
   calls_all_some (c ∷ calls) es coming l =
       let (a, (es₁, (coming₁, l₁, x))) = calls_some c es coming l in

@@ -1,5 +1,6 @@
 -- From local facts to the whole promise: what a watch keeps when it is armed and when it takes an event, and from that what each call answers.
 use Rattle.std.proofs.Common.{◌≡◌, ℕ, suc, ◌+◌, ◌^◌, ◌<◌, ◌≤◌, ◌⊎◌, List, [], ◌∷◌, ◌++◌, length, get_or, take, sym, refl, ap, ◌∙◌, subst, inl, inr, append_assoc, append-nil, le_refl, not-suc-le-zero, arith}
+use Rattle.std.specs.Prelude.{Ok, Err, Result}
 use lib.Bits.{bit_and}
 use Rattle.std.specs.List.{AllByRecursion}
 use Rattle.std.proofs.lemmas.List.{take_more, take_all, length-append, length-take-le}
@@ -8,6 +9,7 @@ use Rattle.rules.specs.declared.Verdict.{Verdict}
 use Rattle.rules.specs.declared.Verdict.TheVariants as verdict
 use Rattle.rules.specs.declared.Word.TheVariants as word
 use Rattle.rules.specs.declared.Call.{Call}
+use Rattle.rules.specs.declared.Refusal.{Refusal}
 use Rattle.rules.specs.declared.Refusal.TheVariants as refusal
 use Rattle.rules.specs.declared.Answer.{Answer}
 use Rattle.rules.specs.declared.Answer.TheVariants as answer
@@ -19,7 +21,7 @@ use Rattle.rules.specs.trees.Trees.{Tree, leaf, polls, Serves}
 use Rattle.rules.specs.trees.Costs.{Price}
 use Rattle.rules.specs.watch.Verdicts.{Tells, IsBreach, TellsNoBreach, word_of}
 use Rattle.rules.specs.watch.Holding.{tree_of, leads_to, polls_of, Sound, Settled, ReleaseSet, StartSet, Reads, Next, Watches, SafeDecided}
-use Rattle.rules.specs.watch.Calls.{limit, Taking, Looking, TriedBefore, Rehearsing, Rearming, Calls, CallsAll}
+use Rattle.rules.specs.watch.Calls.{limit, Taking, Looking, TriedBefore, Rehearsing, Rearming, Calls, CallsAll, take_gives, look_gives, rehearsal_gives}
 use Rattle.rules.specs.watch.Calls as C
 use Rattle.rules.specs.watch.Promises.{FittedAll, Promise}
 use Rattle.events.proofs.SetLaws.{and_one}
@@ -132,28 +134,28 @@ module _ (rule : Rule) (trees : List Tree) (sound : Sound rule trees) where
     no_breach : (IsBreach v → ⊥) → TellsNoBreach rule trees es
     no_breach nb = (v, watches_tells es held v watches, nb)
 
-    pub take_breached : (coming : List ℕ) → IsBreach v → Taking rule trees es coming (answer.Refused refusal.Breached) es coming
+    pub take_breached : (coming : List ℕ) → IsBreach v → Taking rule trees es coming (Err refusal.Breached) es coming
     take_breached coming b = C.Taking.breached (v, watches_tells es held v watches, b)
 
-    pub take_full : (coming : List ℕ) → (IsBreach v → ⊥) → length es ≡ limit → Taking rule trees es coming (answer.Refused refusal.Full) es coming
+    pub take_full : (coming : List ℕ) → (IsBreach v → ⊥) → length es ≡ limit → Taking rule trees es coming (Err refusal.Full) es coming
     take_full coming nb full = C.Taking.full (no_breach nb) full
 
-    pub take_nothing_waits : (IsBreach v → ⊥) → length es < limit → Taking rule trees es [] (answer.Refused refusal.NothingWaits) es []
+    pub take_nothing_waits : (IsBreach v → ⊥) → length es < limit → Taking rule trees es [] (Err refusal.NothingWaits) es []
     take_nothing_waits nb room = C.Taking.nothing_waits (no_breach nb) room refl
 
     pub take_taken : (e : ℕ) (later : List ℕ) (next : ℕ) (w : Verdict) → (IsBreach v → ⊥) → length es < limit
         → Settled rule (leads_to trees held e) next → Next rule (length es + 1) next v w
-        → Taking rule trees es (e ∷ later) (answer.Taken w (polls_of trees held e)) (es ++ e ∷ []) later
+        → Taking rule trees es (e ∷ later) (take_gives w (polls_of trees held e)) (es ++ e ∷ []) later
     take_taken e later next w nb room settled now = C.Taking.taken e later w (polls_of trees held e) (no_breach nb) room refl
         (watches_tells (es ++ e ∷ []) next w (taken rule trees es held v e next w watches settled now))
         (held, watches_held rule trees es held v watches, refl)
 
     -- ---- look
 
-    pub looked : (coming : List ℕ) → Looking rule trees es coming (answer.Shown v (length es)) es coming
+    pub looked : (coming : List ℕ) → Looking rule trees es coming (look_gives v (length es)) es coming
     looked coming = C.Looking.shown v (watches_tells es held v watches)
 
-    pub rehearse_breached : (coming tried : List ℕ) → IsBreach v → Rehearsing rule trees es coming tried (answer.Refused refusal.Breached) es coming
+    pub rehearse_breached : (coming tried : List ℕ) → IsBreach v → Rehearsing rule trees es coming tried (Err refusal.Breached) es coming
     rehearse_breached coming tried b = C.Rehearsing.breached (v, watches_tells es held v watches, b)
 
   -- ---- rehearse
@@ -198,14 +200,14 @@ module _ (rule : Rule) (trees : List Tree) (sound : Sound rule trees) where
         at j l (inl e) = subst (λ (n : ℕ). TellsNoBreach rule trees (es ++ take n tried)) (sym e) (v, tells_now, nb)
         at j l (inr ne) = so_far.before.lasts j (omega arith)
 
-    pub rehearse_breach_found : (coming : List ℕ) → IsBreach v → Rehearsing rule trees es coming tried (answer.Tried word.Breach k) es coming
+    pub rehearse_breach_found : (coming : List ℕ) → IsBreach v → Rehearsing rule trees es coming tried (rehearsal_gives word.Breach k) es coming
     rehearse_breach_found coming b = C.Rehearsing.breach_found k so_far.began so_far.before (v, tells_now, b)
 
     pub rehearse_not_an_event : (coming : List ℕ) → (IsBreach v → ⊥) → k < length tried → 63 < get_or tried k 0
-        → Rehearsing rule trees es coming tried (answer.Refused (refusal.NoEvent k)) es coming
+        → Rehearsing rule trees es coming tried (Err (refusal.NoEvent k)) es coming
     rehearse_not_an_event coming nb more above = C.Rehearsing.not_an_event k so_far.began so_far.before (v, tells_now, nb) more above
 
-    pub rehearse_finished : (coming : List ℕ) → (IsBreach v → ⊥) → k ≡ length tried → Rehearsing rule trees es coming tried (answer.Tried (word_of v) (length tried)) es coming
+    pub rehearse_finished : (coming : List ℕ) → (IsBreach v → ⊥) → k ≡ length tried → Rehearsing rule trees es coming tried (rehearsal_gives (word_of v) (length tried)) es coming
     rehearse_finished coming nb all = C.Rehearsing.finished v so_far.began (subst (TriedBefore rule trees es tried) all so_far.before) (v, tells, nb) tells
       where
         tells : Tells rule trees (es ++ tried) v
@@ -213,12 +215,12 @@ module _ (rule : Rule) (trees : List Tree) (sound : Sound rule trees) where
 
 -- ---- rearm
 
-pub rearmed : (coming : List ℕ) → Rearming coming answer.Armed [] coming
+pub rearmed : (coming : List ℕ) → Rearming coming (Ok answer.Armed) [] coming
 rearmed coming = C.Rearming.armed
 
 -- ---- one call after the others
 
-pub calls_more : (rule : Rule) (trees : List Tree) (calls : List Call) (c : Call) (es coming : List ℕ) (answers : List Answer) (a : Answer) (es₁ coming₁ es' coming' : List ℕ)
+pub calls_more : (rule : Rule) (trees : List Tree) (calls : List Call) (c : Call) (es coming : List ℕ) (answers : List (Result Answer Refusal)) (a : Result Answer Refusal) (es₁ coming₁ es' coming' : List ℕ)
     → CallsAll rule trees calls es coming answers es₁ coming₁ → Calls rule trees c es₁ coming₁ a es' coming'
     → CallsAll rule trees (calls ++ c ∷ []) es coming (answers ++ a ∷ []) es' coming'
 calls_more rule trees [] c es coming answers a es₁ coming₁ es' coming' C.CallsAll.no_more x = C.CallsAll.one_more x C.CallsAll.no_more
@@ -226,16 +228,16 @@ calls_more rule trees (d ∷ calls) c es coming answers a es₁ coming₁ es' co
     C.CallsAll.one_more y (calls_more rule trees calls c e₂ c₂ rest a es₁ coming₁ es' coming' ys x)
 
 -- the same over the first k calls and answers of two lists
-pub calls_next : (rule : Rule) (trees : List Tree) (calls : List Call) (answers : List Answer) (k : ℕ) (c : Call) (a : Answer) (coming es₁ coming₁ es' coming' : List ℕ)
+pub calls_next : (rule : Rule) (trees : List Tree) (calls : List Call) (answers : List (Result Answer Refusal)) (k : ℕ) (c : Call) (a : Result Answer Refusal) (coming es₁ coming₁ es' coming' : List ℕ)
     → k < length calls → k < length answers → CallsAll rule trees (take k calls) [] coming (take k answers) es₁ coming₁
     → Calls rule trees (get_or calls k c) es₁ coming₁ (get_or answers k a) es' coming' → CallsAll rule trees (take (k + 1) calls) [] coming (take (k + 1) answers) es' coming'
 calls_next rule trees calls answers k c a coming es₁ coming₁ es' coming' lc la all x =
     subst (λ (l : List Call). CallsAll rule trees l [] coming (take (k + 1) answers) es' coming') (sym (take_more calls k c lc))
-    (subst (λ (l : List Answer). CallsAll rule trees (take k calls ++ get_or calls k c ∷ []) [] coming l es' coming') (sym (take_more answers k a la))
+    (subst (λ (l : List (Result Answer Refusal)). CallsAll rule trees (take k calls ++ get_or calls k c ∷ []) [] coming l es' coming') (sym (take_more answers k a la))
     (calls_more rule trees (take k calls) (get_or calls k c) [] coming (take k answers) (get_or answers k a) es₁ coming₁ es' coming' all x))
 
 -- ---- the whole promise
 
-pub promise : (price : Price) (rule : Rule) (trees : List Tree) (costs : List ℕ) (calls : List Call) (coming : List ℕ) (answers : List Answer) (taken left : List ℕ)
+pub promise : (price : Price) (rule : Rule) (trees : List Tree) (costs : List ℕ) (calls : List Call) (coming : List ℕ) (answers : List (Result Answer Refusal)) (taken left : List ℕ)
     → FittedAll price rule trees costs → CallsAll rule trees calls [] coming answers taken left → Promise price rule trees costs calls coming answers left
 promise price rule trees costs calls coming answers taken left fit all = record { fit = fit; taken = taken; answered = all }

@@ -1,9 +1,11 @@
 -- A watch's inputs determine its trees, its costs, its answers and the events that it leaves.
 use Rattle.std.proofs.Common.{◌≡◌, ℕ, ◌<◌, List, [], length, get_or, sym, ap, ◌∙◌, subst, lit≤}
+use Rattle.std.specs.Prelude.{Result}
 use Rattle.std.specs.List.{AllByRecursion}
 use Rattle.std.proofs.lemmas.List.{ext_get_or}
 use Rattle.rules.specs.declared.Line.{Line}
 use Rattle.rules.specs.declared.Call.{Call}
+use Rattle.rules.specs.declared.Refusal.{Refusal}
 use Rattle.rules.specs.declared.Answer.{Answer}
 use Rattle.events.specs.Cells.{on_cell, off_cell}
 use Rattle.rules.specs.automata.Rules.{Rule, Event}
@@ -62,7 +64,7 @@ fitted_all_one price rule trees trees' costs costs' a b = (
 
 -- ---- the promise has one outcome
 
-pub promise_one : (price : Price) (rule : Rule) (trees trees' : List Tree) (costs costs' : List ℕ) (calls : List Call) (coming : List ℕ) (as₁ as₂ : List Answer) (left left' : List ℕ)
+pub promise_one : (price : Price) (rule : Rule) (trees trees' : List Tree) (costs costs' : List ℕ) (calls : List Call) (coming : List ℕ) (as₁ as₂ : List (Result Answer Refusal)) (left left' : List ℕ)
     → AllByRecursion (Event rule) coming → Promise price rule trees costs calls coming as₁ left → Promise price rule trees' costs' calls coming as₂ left'
     → (trees ≡ trees') × (costs ≡ costs') × (as₁ ≡ as₂) × (left ≡ left')
 promise_one price rule trees trees' costs costs' calls coming as₁ as₂ left left' ok a b =

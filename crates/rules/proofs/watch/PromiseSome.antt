@@ -1,8 +1,10 @@
 -- The whole promise can be kept: it holds of some trees and answers for a well-formed rule, every lawful measure, every list of events to come and every list of calls.
 use Rattle.std.proofs.Common.{◌≡◌, ℕ, zero, suc, ◌+◌, ◌^◌, ◌<◌, Bool, true, false, cond, T, ◌↔◌, List, [], ◌∷◌, length, get_or, sym, refl, ap, ◌∙◌, subst, not-suc-le-zero, arith}
+use Rattle.std.specs.Prelude.{Result}
 use Rattle.std.proofs.lemmas.Nat.{pow_pos, pow_below}
 use Rattle.rules.specs.declared.State.{State}
 use Rattle.rules.specs.declared.Call.{Call}
+use Rattle.rules.specs.declared.Refusal.{Refusal}
 use Rattle.rules.specs.declared.Answer.{Answer}
 use Rattle.events.specs.Sets.{has, ◌∈◌, set_of, union_over}
 use Rattle.rules.specs.automata.Rules.{Rule, StateWith, Starts, WellFormed}
@@ -137,7 +139,7 @@ module _ (price : Price) (rule : Rule) (live safe release : ℕ) (law : Lawful p
   -- ---- the promise for any calls
 
   pub promise_some : (calls : List Call) (coming : List ℕ)
-      → (trees : List Tree) × ((costs : List ℕ) × ((answers : List Answer) × ((left : List ℕ) × Promise price rule trees costs calls coming answers left)))
+      → (trees : List Tree) × ((costs : List ℕ) × ((answers : List (Result Answer Refusal)) × ((left : List ℕ) × Promise price rule trees costs calls coming answers left)))
   promise_some calls coming =
       let sound = fitted_sound price rule trees costs well (safe_decided rule safe kinds.safe_is) all_fitted in
       let (answers, (es, (left, all))) = calls_all_some rule trees sound start start_set calls [] coming (omega arith) in

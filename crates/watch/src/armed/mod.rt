@@ -3,9 +3,8 @@ ghost use Rattle.std.specs.Prelude.{◌≡◌, ℕ, ◌<◌, ◌≤◌, true, le
 ghost use Rattle.events.specs.Sets.{has};
 ghost use Rattle.fitting.specs.Plans.{plan_rule};
 
-use crate::answer::Shown;
 use fitting::plan::Plan;
-use rules::Snapshot;
+use rules::{Shown, Snapshot};
 
 pub mod arm;
 pub mod look;

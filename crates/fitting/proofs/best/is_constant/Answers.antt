@@ -1,34 +1,39 @@
--- Each turn compares the lowest event that is left.
-use Rattle.std.proofs.Common.{◌<◌, true, false, sym, ap, ◌∙◌, arith}
+-- Each covered event is compared with the lowest.
+use Rattle.std.proofs.Common.{◌≡◌, ℕ, ◌<◌, eqb, get_or, sym, ap, ◌∙◌, arith, rules, tests}
+use mir.Facts.{Fits-below}
+use Rattle.std.specs.List.{list_all}
+use Rattle.std.proofs.lemmas.Iterator.Consumers.{YieldsList-from_first}
+use Rattle.std.proofs.lemmas.Iterator.Adapters.{serves_from_places}
+use Rattle.std.proofs.lemmas.Iterator.Search.{all_from_yields_List}
+use Rattle.events.specs.Sets.{members_of}
 use Rattle.events.proofs.CellLaws.{lowest_small}
+use Rattle.events.proofs.MemberLaws.{Member, members-in}
 use Rattle.events.proofs.SetLaws.{false_T, true_T}
 use Rattle.fitting.specs.Tables.{value_at}
-use Rattle.fitting.proofs.SameSets.{left_all, left_differs, left_less, left_none}
+use Rattle.fitting.proofs.SameSets.{as_lowest, all_same, same_all}
 use Rattle.fitting.proofs.best.is_constant.Goals as goal
 
 pub bounds-sets-lowest_event : goal.bounds-sets-lowest_event
-bounds-sets-lowest_event c = omega (arith, lowest_small c.args.cell, c.lowest_event.ensures.found c.requires)
+bounds-sets-lowest_event c = omega (arith, lowest_small c.args.cell.number, c.lowest_event.ensures)
 
-pub loop-rest-init : goal.loop-rest-init
-loop-rest-init c = left_all (value_at c.args.sets.now) c.args.cell c.events_of-rest.result c.requires c.events_of-rest.type_inv c.events_of-rest.ensures.covered
+pub all-requires-clause-callable : goal.all-requires-clause-callable
+all-requires-clause-callable c =
+    serves_from_places (YieldsList-from_first (λ x. x) (λ s. members_of s.rest) (members_of c.events.result) cc)
+    (λ x q k. search (rules, tests))
+    (λ x k l is. let h : Member c.events.result (get_or (members_of c.events.result) k x) = members-in c.events.result k x l in
+    let low : x < 64 = omega (arith, h.0, is) in
+    (λ _ _ _ _ _. Fits-below {n = 256} tt (omega arith), λ _ _ _ _ _. omega arith))
 
-pub loop-rest-preserved : goal.loop-rest-preserved
-loop-rest-preserved c =
-    let pos : 0 < c.loop-rest.rest = omega (arith, c.loop-rest-test.true) in
-    left_less (value_at c.args.sets.now) c.args.cell c.loop-rest.rest c.loop-rest.invariant pos
-    (c.if-sets-rest.false ∙ ap (value_at c.args.sets.now) (c.lowest_event.ensures.found c.requires))
+same_as_lowest : (c : goal.After-all) → c.all.result ≡ list_all (as_lowest (value_at c.args.sets.now) c.args.cell.number) (members_of c.events.result)
+same_as_lowest c =
+    let wants = value_at c.args.sets.now in
+    all_from_yields_List (λ e. eqb (wants e) (wants c.lowest_event.result)) _ _ c.all.result c.all.ensures.ran
+    (YieldsList-from_first (λ x. x) (λ s. members_of s.rest) (members_of c.events.result) cc) (λ x b q k. search (rules, tests))
+    ∙ ap (λ (n : ℕ). list_all (λ e. eqb (wants e) (wants n)) (members_of c.events.result)) (c.lowest_event.ensures)
 
-pub returns-then-sets-rest : goal.returns-then-sets-rest
-returns-then-sets-rest c =
-    let pos : 0 < c.loop-rest.rest = omega (arith, c.loop-rest-test.true) in
-    record {
-      same = λ e. absurd (true_T false e);
-      other = λ e. left_differs (value_at c.args.sets.now) c.args.cell c.loop-rest.rest c.loop-rest.invariant pos
-          (λ q. c.if-sets-rest.true (q ∙ sym (ap (value_at c.args.sets.now) (c.lowest_event.ensures.found c.requires))));
-    }
+pub returns-clause-same : goal.returns-clause-same
+returns-clause-same c = λ t. all_same (value_at c.args.sets.now) c.args.cell.number c.events.result c.events.ensures (sym (same_as_lowest c) ∙ t)
 
-pub returns : goal.returns
-returns c = record {
-  same = λ e. left_none (value_at c.args.sets.now) c.args.cell c.loop-rest.rest c.loop-rest.invariant (omega arith);
-  other = λ e. absurd (false_T true e tt);
-}
+pub returns-clause-other : goal.returns-clause-other
+returns-clause-other c = λ f same.
+    false_T c.all.result f (true_T c.all.result (same_as_lowest c ∙ same_all (value_at c.args.sets.now) c.args.cell.number c.events.result c.events.ensures same))

@@ -1,27 +1,25 @@
--- Each turn counts the line if its digit is 0.
-use Rattle.std.proofs.Common.{◌≡◌, ℕ, eqb, sym, refl, ap, ◌∙◌, div-one, arith}
-use Rattle.events.specs.Cells.{digit, count_below, free_in}
+-- The lines whose digit is 0 are counted.
+use Rattle.std.proofs.Common.{ℕ, ◌<◌, sum_by, refl, eqb, ◌∙◌, arith, rules, tests}
+use Rattle.std.specs.List.{range_with_len}
+use Rattle.std.proofs.lemmas.Iterator.{YieldsList-from_range, YieldsList-from_map}
+use Rattle.std.proofs.lemmas.Iterator.Consumers.{fits_by_from_yields_list, sum_by_from_yields_List}
+use Rattle.events.specs.Cells.{digit, one_if, free_in}
 use Rattle.events.proofs.CellLaws.{count_le}
-use Rattle.fitting.proofs.Counts.{next-digit, count_free, count_fixed}
+use Rattle.events.proofs.MemberLaws.{sum_passing}
 use Rattle.fitting.proofs.cells.free_lines.Goals as goal
-use Rattle.fitting.proofs.cells.free_lines.Goals.{then-rest-eq0, else-rest-eq0}
 
-pub loop-init : goal.loop-init
-loop-init c = (sym (div-one c.args.cell), refl)
+few : (cell : ℕ) → sum_by (λ line. one_if (eqb (digit cell line) 0)) (range_with_len 0 6) < 256
+few cell = omega (arith, sum_passing 6 (λ line. eqb (digit cell line) 0), count_le 6 (λ line. eqb (digit cell line) 0))
 
-pub overflow_add-count : goal.overflow_add-count
-overflow_add-count c = record { fits = omega (arith, c.loop.invariant.1, count_le c.loop.counter (λ line. eqb (digit c.args.cell line) 0), c.loop-test.true) }
-
-pub loop-preserved : goal.loop-preserved
-loop-preserved c =
-    let rest = next-digit c.args.cell c.loop.counter c.loop.rest c.loop.invariant.0 in
-    elim c.if-rest-eq0.branch [
-      | then-rest-eq0 w ↦ (rest, w.count-is ∙ count_free c.args.cell c.loop.counter c.loop.rest c.loop.count c.loop.invariant.0 c.loop.invariant.1 w.if-rest-eq0.true)
-      | else-rest-eq0 w ↦ (rest, w.count-is ∙ count_fixed c.args.cell c.loop.counter c.loop.rest c.loop.count c.loop.invariant.0 c.loop.invariant.1 w.if-rest-eq0.false)
-    ]
+pub sum-requires-clause-fits : goal.sum-requires-clause-fits
+sum-requires-clause-fits c =
+    fits_by_from_yields_list (λ line. one_if (eqb (digit c.args.cell.number line) 0)) (range_with_len 0 6) c.map.result 256
+    (YieldsList-from_map _ (λ line. one_if (eqb (digit c.args.cell.number line) 0)) (YieldsList-from_range 0 6 6 (cc) refl) c.map.ensures.closure (λ x r q k. search (rules, tests)))
+    (few c.args.cell.number)
 
 pub returns : goal.returns
 unfolding free_in
 returns c =
-    let end : c.loop.counter ≡ 6 = omega arith in
-    c.loop.invariant.1 ∙ ap (λ (n : ℕ). count_below n (λ line. eqb (digit c.args.cell line) 0)) end
+    sum_by_from_yields_List (λ line. one_if (eqb (digit c.args.cell.number line) 0)) (range_with_len 0 6) c.map.result c.sum.result c.sum.ensures.ran
+    (YieldsList-from_map _ (λ line. one_if (eqb (digit c.args.cell.number line) 0)) (YieldsList-from_range 0 6 6 (cc) refl) c.map.ensures.closure (λ x r q k. search (rules, tests)))
+    ∙ sum_passing 6 (λ line. eqb (digit c.args.cell.number line) 0)

@@ -3,4 +3,4 @@ use Rattle.events.specs.Cells.{free_in}
 use Rattle.fitting.proofs.tree.+write_tree.Given as goal
 
 abbrev pub decreases-write_tree : goal.decreases-write_tree
-decreases-write_tree l = free_in l.cell
+decreases-write_tree l = free_in l.cell.number

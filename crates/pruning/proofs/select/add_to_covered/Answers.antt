@@ -1,24 +1,29 @@
--- The events that are left have their sets as they were, and the other covered ones have the bit.
-use Rattle.std.proofs.Common.{◌-◌, ◌<◌, arith}
-use lib.Bits.{and_le_r}
-use Rattle.pruning.proofs.GatherLaws.{adding_none, adding_more, adding_all, low_lt}
+-- Each turn takes the lowest event that is left.
+use Rattle.std.proofs.Common.{refl}
+use Rattle.events.proofs.MemberLaws.{Taken, taken, none_left}
+use Rattle.pruning.proofs.GatherLaws.{adding_more}
 use Rattle.pruning.proofs.select.add_to_covered.Goals as goal
+use Rattle.pruning.proofs.select.add_to_covered.Goals.{In-Some}
 
-pub loop-rest-init : goal.loop-rest-init
-loop-rest-init c = adding_none c.args.sets.now c.args.covered c.args.bit c.told-sets c.ranges.covered.fits
+turn : (c : In-Some) → Taken c.loop-event.event-iterator.rest c.in-Some.event c.next.new.self.rest
+turn c = taken c.loop-event.event-iterator.rest c.in-Some.event c.next.new.self.rest c.in-Some.ensures.steps
 
-pub add_bit-requires : goal.add_bit-requires
-add_bit-requires c =
-    let pos : 0 < c.loop-rest.rest = omega (arith, c.loop-rest-test.true) in
-    low_lt _ _ _ _ _ c.loop-rest.invariant pos
+pub bounds-sets-event : goal.bounds-sets-event
+bounds-sets-event c = (turn (goal.at.bounds-sets-event c).In-Some).low
 
-pub loop-rest-preserved : goal.loop-rest-preserved
-loop-rest-preserved c =
-    let pos : 0 < c.loop-rest.rest = omega (arith, c.loop-rest-test.true) in
-    adding_more _ _ _ _ _ c.loop-rest.invariant pos _ c.add_bit.ensures
+pub bounds-sets-event-in-loop-event : goal.bounds-sets-event-in-loop-event
+bounds-sets-event-in-loop-event c = (turn (goal.at.bounds-sets-event-in-loop-event c).In-Some).low
 
-pub loop-rest-smaller : goal.loop-rest-smaller
-loop-rest-smaller c = omega (arith, c.loop-rest-test.true, and_le_r c.loop-rest.rest (c.loop-rest.rest - 1))
+pub loop-event-preserved : goal.loop-event-preserved
+loop-event-preserved c = (
+  tt,
+  tt,
+  adding_more c.args.sets.now c.loop-event.sets c.args.covered c.loop-event.event-iterator.rest c.args.bit c.in-Some.event c.next.new.self.rest
+      c.loop-event.invariant.2 (turn (goal.at.loop-event-preserved c).In-Some) _ refl,
+)
 
 pub returns : goal.returns
-returns c = record { long = c.loop-rest.invariant.long; added = adding_all _ _ _ _ _ c.loop-rest.invariant (omega arith) }
+returns c = record {
+  long = c.loop-event.invariant.2.long;
+  added = λ e l. c.loop-event.invariant.2.done e l (none_left c.loop-event.event-iterator.rest c.in-None.ensures.steps.0 e l);
+}

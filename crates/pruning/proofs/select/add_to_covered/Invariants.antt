@@ -1,9 +1,9 @@
--- The loop over the covered events, lowest first.
+-- The bit is added to the sets of the covered events that were taken.
 use Rattle.pruning.proofs.GatherLaws.{Adding}
 use Rattle.pruning.proofs.select.add_to_covered.Given as goal
 
-abbrev pub invariant-loop-rest : goal.invariant-loop-rest
-invariant-loop-rest l = Adding l.initial.sets l.sets l.covered l.rest l.bit
-
-abbrev pub decreases-loop-rest : goal.decreases-loop-rest
-decreases-loop-rest l = l.rest
+abbrev pub invariant-loop-event : goal.invariant-loop-event
+invariant-loop-event l =
+    (goal.iterator-loop-event).can_next l.event-iterator
+    × (goal.iterator-loop-event).is_finite l.event-iterator
+    × Adding l.initial.sets l.sets l.covered l.event-iterator.rest l.bit

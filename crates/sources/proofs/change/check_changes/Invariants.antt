@@ -3,8 +3,8 @@ use Rattle.std.proofs.Common.{◌≡◌, ◌-◌, length}
 use Rattle.sources.specs.ChangeLogs.{checked_pairs, pairs_from}
 use Rattle.sources.proofs.change.check_changes.Given as goal
 
-abbrev pub invariant-loop-at : goal.invariant-loop-at
-invariant-loop-at l = checked_pairs (pairs_from l.bytes l.at) ≡ checked_pairs (pairs_from l.bytes 0)
+abbrev pub invariant-loop-reader : goal.invariant-loop-reader
+invariant-loop-reader l = (checked_pairs (pairs_from l.bytes l.reader.at) ≡ checked_pairs (pairs_from l.bytes 0)) × (l.reader.bytes ≡ l.initial.reader.bytes)
 
-abbrev pub decreases-loop-at : goal.decreases-loop-at
-decreases-loop-at l = length l.bytes - l.at
+abbrev pub decreases-loop-reader : goal.decreases-loop-reader
+decreases-loop-reader l = length l.bytes - l.reader.at

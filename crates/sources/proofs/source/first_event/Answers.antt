@@ -1,5 +1,6 @@
 -- Each turn adds one line.
 use Rattle.std.proofs.Common.{◌≡◌, ap, ◌∙◌, arith}
+use Rattle.std.proofs.lemmas.Bool.{cond-true, lt-ltb}
 use Rattle.sources.specs.Waiting.{first_of}
 use Rattle.sources.proofs.Gather.{lines_below, more_on, more_off, polled_some, none_yet, all_lines_lem}
 use Rattle.sources.proofs.source.first_event.Goals as goal
@@ -15,7 +16,7 @@ loop-line-preserved g c =
     let on = c.in_ok-poll.field-0 in
     let p = c.in_ok-poll.ensures in
     elim c.if-branch.branch [
-      | then-branch w ↦ (w.event-is ∙ w.with_line-event.ensures ∙ more_on first line c.loop-line.event on (omega arith) p c.loop-line.invariant.0 w.if-branch.true, λ _. polled_some first line on (omega arith) p)
+      | then-branch w ↦ (w.event-is ∙ w.with_line-event.ensures ∙ (cond-true _ _ _ (lt-ltb line 6 (omega arith)) ∙ more_on first line c.loop-line.event on (omega arith) p c.loop-line.invariant.0 w.if-branch.true), λ _. polled_some first line on (omega arith) p)
       | else-branch w ↦ (w.event-is ∙ more_off first line c.loop-line.event on (omega arith) p c.loop-line.invariant.0 w.if-branch.false, λ _. polled_some first line on (omega arith) p)
     ]
 

@@ -1,12 +1,7 @@
 -- The check is right.
 use Rattle.std.proofs.Common.{sym, arith}
-use Rattle.sources.proofs.Rewiring.{wiring_exact, taken_fits, refused_fits}
+use Rattle.sources.proofs.Rewiring.{wiring_exact, refused_fits}
 use Rattle.sources.proofs.wiring.check_wiring.Goals as goal
-
-pub returns-then-is_fitting : goal.returns-then-is_fitting
-returns-then-is_fitting c =
-    let e = taken_fits c.args.entries c.args.turned (sym c.if-is_fitting.ensures) in
-    record { answer = e; exact = wiring_exact c.args.entries c.args.turned _ (omega arith) e }
 
 pub returns : goal.returns
 returns c =

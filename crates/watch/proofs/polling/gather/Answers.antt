@@ -1,50 +1,38 @@
 -- Each turn goes down the tree of the lowest state that is left.
-use Rattle.std.proofs.Common.{◌-◌, ◌<◌, arith}
-use borrow.Author.Numbers.{trailing_lt}
-use lib.Bits.{and_le_l}
-use Rattle.events.proofs.LowestLaws.{low_member}
-use Rattle.rules.specs.trees.Trees.{gives, polls}
-use Rattle.rules.specs.watch.Holding.{tree_of}
+use Rattle.std.proofs.Common.{◌≡◌, ◌<◌, refl, ap, ◌∙◌, subst, arith, rules}
+use Rattle.std.specs.List.{All}
+use Rattle.std.proofs.lemmas.List.Elements.{All-head}
+use Rattle.events.proofs.MemberLaws.{Member}
+use Rattle.pruning.proofs.DraftLaws.{draft_well}
 use Rattle.fitting.specs.Plans.{plan_trees}
 use Rattle.watch.specs.Polling.{head_of}
-use Rattle.watch.proofs.UnionLaws.{left_less, left_none, left_in}
-use Rattle.watch.proofs.PollLaws.{sound_top, top_set, top_lines}
+use Rattle.watch.proofs.PollLaws.{Gathering, gathering_starts, gathering_more, sound_top, top_set, top_lines}
 use Rattle.watch.proofs.polling.gather.Goals as goal
+
+pub loop-state-init : goal.loop-state-init
+loop-state-init g c =
+    let all : c.into_iter-state-iterator.result.rest ≡ c.args.held = search rules in
+    (tt, tt, refl, rw all (gathering_starts (plan_trees c.args.plan.now) c.args.held _ (omega arith)))
 
 pub descend-set-requires : goal.descend-set-requires
 descend-set-requires g c =
-    let rest = c.loop-rest.rest in
-    let i = c.loop-rest.invariant in
-    let pos : 0 < rest = omega (arith, c.loop-rest-test.true) in
-    let top = c.top.ensures.is (trailing_lt 32 rest pos i.0) in
-    let state = c.requires.states _ (i.1 _ (low_member 32 rest pos i.0)) in
-    record { sound = sound_top c.args.plan.now _ _ _ c.nodes-nodes.ensures top state; waiting = c.requires.waiting; known = i.4 }
+    let members = subst (All (Member c.args.held)) c.in-Some.ensures.steps c.loop-state.invariant.3.members in
+    let state = c.requires.states c.in-Some.state (All-head (Member c.args.held) _ _ members).1 in
+    let low : c.in-Some.state < 32 = omega (arith, state, (draft_well c.args.plan.now.draft).few_states) in
+    sound_top c.args.plan.now _ c.in-Some.state _ c.nodes-nodes.ensures (c.top.ensures.is low) state
 
-pub loop-rest-preserved : goal.loop-rest-preserved
-loop-rest-preserved g c =
-    let e = head_of (g.S.LineSource.events c.args.source.now) in
+pub loop-state-preserved : goal.loop-state-preserved
+loop-state-preserved g c =
     let plan = c.args.plan.now in
-    let rest = c.loop-rest.rest in
-    let held = c.args.held in
-    let i = c.loop-rest.invariant in
-    let pos : 0 < rest = omega (arith, c.loop-rest-test.true) in
-    let top = c.top.ensures.is (trailing_lt 32 rest pos i.0) in
-    let state = c.requires.states _ (i.1 _ (low_member 32 rest pos i.0)) in (
-      omega (arith, and_le_l rest (rest - 1), i.0),
-      left_in 32 held rest pos i.0 i.1,
-      left_less 32 (λ q. gives (tree_of (plan_trees plan) q) e) held rest _ _ pos i.0
-          (top_set plan _ _ _ c.nodes-nodes.ensures top state e c.loop-rest.set _ c.descend-set.ensures.set) i.2,
-      left_less 32 (λ q. polls (tree_of (plan_trees plan) q) e) held rest _ _ pos i.0
-          (top_lines plan _ _ _ c.nodes-nodes.ensures top state e _ _ c.descend-set.ensures.polled) i.3,
-      c.descend-set.ensures.known,
-    )
-
-pub returns : goal.returns
-returns g c =
     let e = head_of (g.S.LineSource.events c.args.source.now) in
-    let trees = plan_trees c.args.plan.now in
-    let i = c.loop-rest.invariant in
-    record {
-      set = left_none 32 (λ q. gives (tree_of trees q) e) c.args.held c.loop-rest.rest c.loop-rest.set i.2 c.loop-rest-test.false;
-      polled = left_none 32 (λ q. polls (tree_of trees q) e) c.args.held c.loop-rest.rest c.loop-rest.seen.polled i.3 c.loop-rest-test.false;
-    }
+    let so_far = subst (λ l. Gathering (plan_trees plan) c.args.held e l c.loop-state.set c.loop-state.polls.polled) c.in-Some.ensures.steps c.loop-state.invariant.3 in
+    let state = c.requires.states c.in-Some.state (All-head (Member c.args.held) _ _ so_far.members).1 in
+    let low : c.in-Some.state < 32 = omega (arith, state, (draft_well plan.draft).few_states) in
+    let same = ap (λ s. head_of (g.S.LineSource.events s)) c.loop-state.invariant.2 in (
+      tt,
+      tt,
+      c.descend-set.ensures.source ∙ c.loop-state.invariant.2,
+      gathering_more (plan_trees plan) c.args.held e c.in-Some.state _ _ _ _ _ so_far
+          (top_set plan _ _ _ c.nodes-nodes.ensures (c.top.ensures.is low) state e _ _ (rw same at c.descend-set.ensures.set))
+          (top_lines plan _ _ _ c.nodes-nodes.ensures (c.top.ensures.is low) state e _ _ (rw same at c.descend-set.ensures.polled)),
+    )

@@ -1,5 +1,5 @@
 -- The whole promise: the trees that were fitted are the plan's, and the calls of its watch have their answers.
-use Rattle.std.proofs.Common.{◌≡◌, ℕ, ◌≤◌, length, suc-ne-zero, arith}
+use Rattle.std.proofs.Common.{◌≤◌, length, arith}
 use Rattle.pruning.specs.Drafts.{rule_of}
 use Rattle.watch.specs.Running.{lent}
 use Rattle.watch.proofs.RunLaws.{just_fitted, watched}
@@ -18,5 +18,5 @@ returns g c =
           room fit (g.S.LineSource.small c.args.source.now)
           (c.make_plan-plan.ensures.taken told (just_fitted price rule c.args.nodes.now c.fit.new.nodes told room_after fit)).1
           c.watch_calls-made.ensures.made c.watch_calls-made.ensures.called c.watch_calls-made.ensures.rest;
-      refused = λ e. absurd (let z : ◌≡◌ {A = ℕ} 1 0 = cc in suc-ne-zero 0 z);
+      refused = λ e. absurd cc;
     }

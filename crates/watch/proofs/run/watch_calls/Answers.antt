@@ -1,31 +1,54 @@
 -- One call more in each turn, and its answer at its place.
-use Rattle.std.proofs.Common.{◌≡◌, ◌<◌, length, refl, ◌∙◌, arith}
-use Rattle.rules.specs.declared.Call.TheVariants as call
-use Rattle.rules.specs.declared.Answer.TheVariants as answer
+use Rattle.std.proofs.Common.{◌≡◌, ◌<◌, ◌≤◌, length, refl, ap, ◌∙◌, arith, length-drop}
+use Rattle.std.proofs.lemmas.List.{set-get_or}
 use Rattle.rules.proofs.watch.CalledLaws.{called_none}
 use Rattle.fitting.specs.Plans.{plan_rule, plan_trees}
-use Rattle.watch.proofs.RunLaws.{calls_more, rest_kept, calls_all}
+use Rattle.watch.specs.Watching.{ArmedOn}
+use Rattle.watch.proofs.RunLaws.{next_call, calls_more, rest_kept, calls_all}
 use Rattle.watch.proofs.run.watch_calls.Goals as goal
 
-pub loop-i-init : goal.loop-i-init
-loop-i-init g c =
+pub loop-answer-init : goal.loop-answer-init
+unfolding ArmedOn
+loop-answer-init g c =
     let p = c.args.plan.now in
-    (called_none (plan_rule p) (plan_trees p) c.args.calls.now (g.S.LineSource.events c.args.source.now) c.args.answers.now c.arm-watch.result.state c.arm-watch.ensures.armed, c.arm-watch.ensures.plan, refl)
+    record {
+      called = called_none (plan_rule p) (plan_trees p) c.args.calls.now (g.S.LineSource.events c.args.source.now) c.args.answers.now c.arm-watch.result.state c.arm-watch.ensures.armed;
+      same_plan = c.arm-watch.ensures.plan;
+      kept = refl;
+      within = omega arith;
+      left = c.iter-rest.ensures.rest;
+    }
 
-pub loop-i-preserved : goal.loop-i-preserved
-loop-i-preserved g c =
-    let i = c.loop-i.i in
-    let lc : i < length c.args.calls.now = omega (arith, c.loop-i-test.true, c.count_made-made.ensures) in
-    let la : i < length c.loop-i.answers = omega (arith, c.loop-i-test.true, c.count_made-made.ensures, c.loop-i.auto.answers) in (
-      calls_more c.args.plan.now c.loop-i.watch.plan.now c.args.calls.now (g.S.LineSource.events c.args.source.now) c.loop-i.answers i c.loop-i.watch.state c.make.new.self.state
-          (g.S.LineSource.events c.loop-i.source) (g.S.LineSource.events c.make.new.source) call.Take c.make.result answer.Armed lc la c.loop-i.invariant.1 c.loop-i.invariant.0 c.make.ensures.made,
-      c.make.ensures.plan ∙ c.loop-i.invariant.1,
-      rest_kept c.loop-i.answers c.args.answers.now i c.make.result c.loop-i.invariant.2,
-    )
+pub loop-answer-preserved : goal.loop-answer-preserved
+loop-answer-preserved g c =
+    let i = c.loop-answer.answer-index in
+    let so_far = c.loop-answer.invariant in
+    let la : i < length c.loop-answer.answers = omega (arith, c.loop-answer-test.true, c.loop-answer.auto.answers) in
+    let next = next_call c.args.calls.now _ _ i c.in-Some.call.now so_far.left c.in-Some.ensures.steps in
+    record {
+      called = calls_more c.args.plan.now _ c.args.calls.now _ (g.S.LineSource.events c.args.source.now) c.loop-answer.answers i _ _ _ _ _ c.make.result next la so_far.same_plan so_far.called c.make.ensures.made;
+      same_plan = c.make.ensures.plan ∙ so_far.same_plan;
+      kept = rest_kept c.loop-answer.answers c.args.answers.now i c.make.result so_far.kept;
+      within = let w = next.within in omega arith;
+      left = next.left;
+    }
 
-pub returns : goal.returns
-returns g c =
-    let all : c.loop-i.i ≡ c.count_made-made.result = omega (arith, c.loop-i-test.false, c.loop-i.auto.i-end) in
-    let (called, rest) = calls_all c.args.plan.now c.args.calls.now (g.S.LineSource.events c.args.source.now) c.args.answers.now c.loop-i.answers c.loop-i.i c.count_made-made.result
-    c.loop-i.watch.state (g.S.LineSource.events c.loop-i.source) all c.loop-i.invariant.0 c.loop-i.invariant.2 in
+-- all room is taken, or all calls are made
+pub returns-after-loop-answer : goal.returns-after-loop-answer
+returns-after-loop-answer g c =
+    let i = c.loop-answer.answer-index in
+    let so_far = c.loop-answer.invariant in
+    let all : i ≡ c.count_made-made.result = omega (arith, c.count_made-made.ensures, so_far.within, c.loop-answer-test.false, c.loop-answer.auto.answer-index-end) in
+    let (called, rest) = calls_all c.args.plan.now c.args.calls.now (g.S.LineSource.events c.args.source.now) c.args.answers.now c.loop-answer.answers i c.count_made-made.result
+    c.loop-answer.watch.state (g.S.LineSource.events c.loop-answer.source) all so_far.called so_far.kept in
     record { made = c.count_made-made.ensures; called = called; rest = rest }
+
+pub returns-in_default : goal.returns-in_default
+returns-in_default g c =
+    let i = c.loop-answer.answer-index in
+    let so_far = c.loop-answer.invariant in
+    let none : length c.args.calls.now ≤ i = omega (arith, c.in_default.ensures.steps.0, ap length so_far.left, length-drop i c.args.calls.now) in
+    let all : i ≡ c.count_made-made.result = omega (arith, c.count_made-made.ensures, so_far.within, none, c.loop-answer-test.true) in
+    let (called, rest) = calls_all c.args.plan.now c.args.calls.now (g.S.LineSource.events c.args.source.now) c.args.answers.now c.loop-answer.answers i c.count_made-made.result
+    c.loop-answer.watch.state (g.S.LineSource.events c.loop-answer.source) all so_far.called so_far.kept in
+    rw set-get_or (record { made = c.count_made-made.ensures; called = called; rest = rest })

@@ -1,14 +1,12 @@
 -- A log begins with the run of its first pair.
-use Rattle.sources.proofs.Playing.{begin_sound, begin_plays, refused_plays, plays_pairs, empty_sound}
+use Rattle.sources.proofs.Playing.{begin_sound, begin_plays, refused_plays, plays_pairs, none_playable}
 use Rattle.sources.proofs.change.ChangeLog.over.Goals as goal
 
 pub invariant_of-result : goal.invariant_of-result
 invariant_of-result c =
     elim c.match-check_changes.branch [
-      | goal.in-Ok w ↦
-          let s = begin_sound c.args.bytes.now w.first_run.result w.in-Ok.ensures.fault w.first_run.ensures in
-          simp w.result-is (record { small = s.small; whole = s.whole; ready = s.ready })
-      | goal.in-Err w ↦ let s = empty_sound in simp w.result-is (record { small = s.small; whole = s.whole; ready = s.ready })
+      | goal.in-Ok w ↦ simp w.result-is (record { playable = begin_sound c.args.bytes.now w.first_run.result w.in-Ok.ensures.fault w.first_run.ensures })
+      | goal.in-Err w ↦ simp w.result-is (record { playable = none_playable })
     ]
 
 pub returns : goal.returns

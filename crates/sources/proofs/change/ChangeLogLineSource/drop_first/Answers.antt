@@ -1,31 +1,20 @@
--- One event less of the run, or the next pair's run; where nothing waits nothing changes.
-use Rattle.std.proofs.Common.{sym, ap, ◌∙◌, subst, arith}
-use Rattle.sources.specs.ChangeLogs.{played_from}
-use Rattle.sources.specs.Waiting.{dropped}
-use Rattle.sources.proofs.Playing.{Playable, can_play, first_none, first_left, later_none, after_sound, after_plays}
+-- One event less of the run, or the next pair's run.
+use Rattle.std.proofs.Common.{sym, ap, ◌∙◌, subst}
+use Rattle.std.specs.Option.{ForSome}
+use Rattle.sources.specs.ChangeLogs.{played_from, IsPlayable}
+use Rattle.sources.specs.Waiting.{later_of}
+use Rattle.sources.proofs.Playing.{after_sound, after_plays}
 use Rattle.sources.proofs.change.ChangeLogLineSource.drop_first.Goals as goal
-
-pub returns-then-self-eq0 : goal.returns-then-self-eq0
-returns-then-self-eq0 c =
-    let log = c.args.self.now in
-    let sound : Playable log.bytes.now log.run = can_play log.small log.whole log.ready in
-    record {
-      answer = ap dropped (first_none log.bytes.now log.run sound (omega arith));
-      after = later_none log.bytes.now log.run sound (omega arith);
-    }
 
 pub invariant_of-self : goal.invariant_of-self
 invariant_of-self c =
     let log = c.args.self.now in
-    let sound : Playable log.bytes.now log.run = can_play log.small log.whole log.ready in
-    let s = subst (Playable log.bytes.now) (sym c.run_after-self.ensures) (after_sound log.bytes.now log.run sound) in
-    record { small = s.small; whole = s.whole; ready = s.ready }
+    let sound = log.playable c.in-Some.run' c.in-Some.is in
+    record { playable = subst (λ r. ForSome r (IsPlayable log.bytes.now)) (sym c.run_after-self.ensures) (after_sound log.bytes.now c.in-Some.run' sound) }
 
-pub returns : goal.returns
-returns c =
+pub returns-clause-after : goal.returns-clause-after
+returns-clause-after c =
     let log = c.args.self.now in
-    let sound : Playable log.bytes.now log.run = can_play log.small log.whole log.ready in
-    record {
-      answer = ap dropped (first_left log.bytes.now log.run sound (omega (arith, c.if-self-eq0.false)));
-      after = ap (played_from log.bytes.now) c.run_after-self.ensures ∙ after_plays log.bytes.now log.run sound (omega (arith, c.if-self-eq0.false));
-    }
+    let sound = log.playable c.in-Some.run' c.in-Some.is in
+    ap (played_from log.bytes.now) c.run_after-self.ensures
+    ∙ (after_plays log.bytes.now c.in-Some.run' sound ∙ ap (λ o. later_of (played_from log.bytes.now o)) (sym c.in-Some.is))

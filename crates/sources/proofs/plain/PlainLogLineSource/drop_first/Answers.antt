@@ -1,17 +1,7 @@
--- One place on, the list is without its first event; past the end nothing changes.
-use Rattle.std.proofs.Common.{ap, arith}
-use Rattle.sources.specs.Waiting.{dropped}
-use Rattle.sources.proofs.Places.{first_at, first_past, later_at, later_past}
+-- One place on, the list is without its first event.
+use Rattle.std.proofs.Common.{arith}
+use Rattle.sources.proofs.Places.{later_at}
 use Rattle.sources.proofs.plain.PlainLogLineSource.drop_first.Goals as goal
 
-pub returns-then-self : goal.returns-then-self
-returns-then-self c = record {
-  answer = ap dropped (first_past c.args.self.now.bytes.now c.args.self.now.place (omega arith));
-  after = later_past c.args.self.now.bytes.now c.args.self.now.place (omega arith);
-}
-
-pub returns : goal.returns
-returns c = record {
-  answer = ap dropped (first_at c.args.self.now.bytes.now c.args.self.now.place (omega arith));
-  after = later_at c.args.self.now.bytes.now c.args.self.now.place (omega arith);
-}
+pub returns-clause-after : goal.returns-clause-after
+returns-clause-after c = rw (c.advance.ensures.place, c.advance.ensures.bytes) (later_at c.args.self.now.bytes.now c.args.self.now.place (omega arith))

@@ -1,0 +1,88 @@
+// A reader of bytes. Numbers are groups of seven bits, lowest first, one a byte, in the fewest bytes and at most three.
+ghost use Rattle.std.specs.Prelude.{◌≡◌, ℕ, ◌<◌, ◌≤◌, ◌↔◌, length, IfOk, Ok, OnErr};
+ghost use Rattle.codec.specs.Reading.{read_to};
+ghost use Rattle.codec.specs.Number.{number_at, IsNumber};
+ghost use Rattle.codec.specs.Field.{field_at, ranged_at};
+
+use crate::fault::{CardFault, NumberFault, RangeFault};
+
+// Bytes, and the place from which they are read.
+#[derive(Clone, Copy)]
+pub struct Reader<'a> {
+    pub bytes: &'a [u8],
+    pub at: usize,
+}
+
+// Reads one, two or three bytes at the place, as a number.
+#[tactic(auto, using(crate::proofs::Numbers::exact_from))]
+fn decode(bytes: &[u8], at: &mut usize) -> Result<u32, NumberFault>
+    ensures value { read_to result at.new ≡ number_at bytes.now at.old }
+    ensures refused { OnErr result (at.new ≡ at.old) }
+    ensures within { IfOk result (λ _. (at.old < at.new) × (at.new ≤ length bytes.now)) }
+    ensures exact { (v q : ℕ) → (read_to result at.new ≡ Ok (record { value = v; next = q })) ↔ IsNumber bytes.now at.old v q }
+{
+    let short = NumberFault::Short { place: bytes.len() };
+    let form = NumberFault::Form { place: *at };
+    match *bytes.get(*at..).unwrap_or_default() {
+        [] => Err(short),
+        [first @ 0..128, ..] => {
+            *at += 1;
+            Ok(u32::from(first))
+        }
+        [_] => Err(short),
+        [_, 0, ..] => Err(form),
+        [first, second @ 0..128, ..] => {
+            *at += 2;
+            Ok(u32::from(first) - 128 + 128 * u32::from(second))
+        }
+        [_, _] => Err(short),
+        [_, _, 0 | 128.., ..] => Err(form),
+        [first, second, third, ..] => {
+            *at += 3;
+            let low = u32::from(first) - 128 + 128 * (u32::from(second) - 128);
+            Ok(low + 16384 * u32::from(third))
+        }
+    }
+}
+
+impl Reader<'_> {
+    // Reads the number that begins at the place. It is read exactly where the bytes there begin with its encoding; else the reader stays where it is.
+    pub fn read_number(&mut self) -> Result<u32, NumberFault>
+        ensures value { read_to result self.new.at ≡ number_at self.old.bytes.now self.old.at }
+        ensures kept { self.new.bytes ≡ self.old.bytes }
+        ensures refused { OnErr result (self.new.at ≡ self.old.at) }
+        ensures within { IfOk result (λ _. (self.old.at < self.new.at) × (self.new.at ≤ length self.old.bytes.now)) }
+        ensures exact { (v q : ℕ) → (read_to result self.new.at ≡ Ok (record { value = v; next = q })) ↔ IsNumber self.old.bytes.now self.old.at v q }
+    {
+        decode(self.bytes, &mut self.at)
+    }
+
+    // Reads the number from `low` to `high` that begins at the place; else the reader stays where it is, and the fault is in the words of a layer.
+    pub fn read_ranged<F: RangeFault>(&mut self, low: u32, high: u32) -> Result<u32, F>
+        ensures value { read_to result self.new.at ≡ ranged_at F.short F.carried F.outside self.old.bytes.now self.old.at low high }
+        ensures kept { self.new.bytes ≡ self.old.bytes }
+        ensures refused { OnErr result (self.new.at ≡ self.old.at) }
+        ensures within { IfOk result (λ n. (self.old.at < self.new.at) × (self.new.at ≤ length self.old.bytes.now) × (low ≤ n) × (n ≤ high)) }
+    {
+        let place = self.at;
+        if self.bytes.len() <= place {
+            return Err(F::short(self.bytes.len()));
+        }
+        let number = self.read_number()?;
+        if number < low || high < number {
+            self.at = place;
+            return Err(F::outside(place));
+        }
+        Ok(number)
+    }
+
+    // Reads the number from `low` to `high` inside a card that begins at the place; else the reader stays where it is.
+    pub fn read_field(&mut self, low: u32, high: u32) -> Result<u32, CardFault>
+        ensures value { read_to result self.new.at ≡ field_at self.old.bytes.now self.old.at low high }
+        ensures kept { self.new.bytes ≡ self.old.bytes }
+        ensures refused { OnErr result (self.new.at ≡ self.old.at) }
+        ensures within { IfOk result (λ n. (self.old.at < self.new.at) × (self.new.at ≤ length self.old.bytes.now) × (low ≤ n) × (n ≤ high)) }
+    {
+        self.read_ranged(low, high)
+    }
+}
