@@ -21,6 +21,7 @@ fn contents(rt: &HostRuntime, path: &str) -> Option<Vec<u8>>
     (bytes.len() <= MOST).then_some(bytes)
 }
 
+// Prints what the library answers to the two files.
 fn main(rt: HostRuntime) -> io::Result<()> {
     let rule = contents(&rt, "rule");
     let log = contents(&rt, "log");

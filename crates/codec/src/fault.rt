@@ -42,7 +42,7 @@ pub enum CardFault {
     NameByte { place: usize },
 }
 
-// A `From` of its own: what a derive writes has no contract, and callers of `?` are to know which fault they carry.
+// A number's fault, carried whole. A `From` of its own: what a derive writes has no contract, and callers of `?` are to know which fault they carry.
 impl From<NumberFault> for CardFault {
     ghost from_gives = { λ x y. y ≡ CardFault.Number x };
 
@@ -53,11 +53,13 @@ impl From<NumberFault> for CardFault {
 
 // A fault of a layer that has numbers with a range.
 pub trait RangeFault: From<NumberFault> {
-    // the fault of bytes that end before the number, of a number that cannot be read, and of one outside its range
+    // the fault of bytes that end before the number
     ghost short: { ℕ → Self };
 
+    // the fault of a number that cannot be read
     ghost carried: { NumberFault → Self };
 
+    // the fault of a number outside its range
     ghost outside: { ℕ → Self };
 
     // The bytes end where the number should begin.
@@ -68,9 +70,11 @@ pub trait RangeFault: From<NumberFault> {
     fn outside(place: usize) -> Self
         ensures { result ≡ outside place };
 
+    // what `?` makes of a number's fault is the fault that carries it, as told above
     ghost carries: { (fault : NumberFault) (given : Self) → Self.from_gives fault given → given ≡ carried fault };
 }
 
+// The numbers of a card have a range.
 impl RangeFault for CardFault {
     ghost short = { λ place. CardFault.Short place };
 

@@ -6,14 +6,15 @@ ghost use Rattle.codec.specs.Field.{field_at, ranged_at};
 
 use crate::fault::{CardFault, NumberFault, RangeFault};
 
-// Bytes, and the place from which they are read.
+// Bytes, and the place from which they are read. Both are open to callers, so each call that moves the place tells that the bytes are as they were, and
+// that the place it moves to is within them.
 #[derive(Clone, Copy)]
 pub struct Reader<'a> {
     pub bytes: &'a [u8],
     pub at: usize,
 }
 
-// Reads one, two or three bytes at the place, as a number.
+// Reads one, two or three bytes at the place, as a number. It stands beside `read_number`, since the proof did not close with the steps in the method.
 #[tactic(auto, using(crate::proofs::Numbers::exact_from))]
 fn decode(bytes: &[u8], at: &mut usize) -> Result<u32, NumberFault>
     ensures value { read_to result at.new ≡ number_at bytes.now at.old }
@@ -69,7 +70,7 @@ impl Reader<'_> {
             return Err(F::short(self.bytes.len()));
         }
         let number = self.read_number()?;
-        if number < low || high < number {
+        if !(low..=high).contains(&number) {
             self.at = place;
             return Err(F::outside(place));
         }

@@ -87,7 +87,7 @@ impl Iterator for Members {
     }
 }
 
-// The laws of sets and cells.
+// The laws of sets and cells. The number that is answered means nothing.
 pub fn laws_stand() -> u8
     ensures union { UnionMembers }
     ensures shared { SharedMembers }

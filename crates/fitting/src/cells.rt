@@ -4,7 +4,7 @@ ghost use Rattle.events.specs.Cells.{digit, Free, free_in, on_cell, off_cell};
 
 use events::Cell;
 
-// The weights of the six digits.
+// The weights of the six digits. A table and no `pow`, by which each would be multiplied out anew at every line of every cell.
 const WEIGHTS: [u16; 6] = [1, 3, 9, 27, 81, 243];
 
 // The weight of a line's digit. A line is a number below 6 here and no type of its own: it would be wrapped and unwrapped at each index and shift.
@@ -30,7 +30,7 @@ pub(crate) fn free_lines(cell: Cell) -> u8
     (0..6).map(|line| u8::from(is_free(cell, line))).sum()
 }
 
-// The cell with the digit of a free line changed to 1 or 2.
+// The cell with the digit of a free line changed to a digit.
 fn with_digit(cell: Cell, line: u8, digit: u16) -> Cell
     requires free { Free cell.number line }
     requires digit { digit < 3 }

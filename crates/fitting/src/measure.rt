@@ -21,7 +21,7 @@ pub struct ForkNumbers {
     ghost off_high: { off ≤ bound (unpolled - 1) },
 }
 
-// The powers of a hundred.
+// The powers of a hundred. A table and no `pow`, by which each would be multiplied out anew at every fork.
 const HUNDREDS: [u64; 7] = [
     1,
     100,
@@ -30,16 +30,6 @@ const HUNDREDS: [u64; 7] = [
     100_000_000,
     10_000_000_000,
     1_000_000_000_000,
-];
-
-// The most that a tree may cost where 0 to 5 lines are left to poll: 1,000 × u × 100^u.
-const BOUNDS: [u64; 6] = [
-    0,
-    100_000,
-    20_000_000,
-    3_000_000_000,
-    400_000_000_000,
-    50_000_000_000_000,
 ];
 
 // A hundred to the power of `n`.
@@ -51,12 +41,13 @@ fn hundred_to(n: u8) -> u64
 }
 
 impl ForkNumbers {
-    // The most that a part may cost, where `unpolled` lines are not polled above the fork.
+    // The most that a part may cost, where `unpolled` lines are not polled above the fork: 1,000 × u × 100^u, with the u that are left to poll.
     fn most(unpolled: u8) -> u64
         requires { (1 ≤ unpolled) × (unpolled ≤ 6) }
         ensures { result ≡ bound (unpolled - 1) }
     {
-        BOUNDS[(unpolled - 1) as usize]
+        let left = unpolled - 1;
+        1000 * u64::from(left) * hundred_to(left)
     }
 
     // The numbers, where they are within their ranges; other numbers make no fork.

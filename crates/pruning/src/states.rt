@@ -56,10 +56,9 @@ pub(crate) fn states_with<F: Fn(State) -> bool>(records: &[StateRecord], test: F
             requires { F.IsAlwaysCallable test }
             ensures { MatchOption (slice_get records.entry.now q) (result ≡ false) (λ r. F.post test r.value result) }
         {
-            match records.get(q as usize) {
-                Some(record) => test(record.value),
-                None => false,
-            }
+            records
+                .get(q as usize)
+                .is_some_and(|record| test(record.value))
         },
     )
 }

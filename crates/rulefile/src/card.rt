@@ -34,10 +34,10 @@ pub enum Card<'a> {
 fn is_name_byte(byte: u8) -> bool
     ensures { result ≡ is_name_byte byte }
 {
-    33 <= byte && byte <= 126
+    byte.is_ascii_graphic()
 }
 
-// The place behind the `count` name bytes that begin at `at`. The loop goes by places, since each of the two faults tells one.
+// The place behind the `count` name bytes that begin at `at`. The loop goes by places and not by bytes, since a byte that is missing is a fault as well as one that is wrong.
 fn name_end(file: &[u8], at: usize, count: u32) -> Result<usize, CardFault>
     requires { at ≤ length file.now }
     ensures value { result ≡ name_end file.now at count }
@@ -45,10 +45,10 @@ fn name_end(file: &[u8], at: usize, count: u32) -> Result<usize, CardFault>
 {
     let end = at + count as usize;
     for place in at..end {
-        if file.len() <= place {
+        let Some(byte) = file.get(place) else {
             return Err(CardFault::Short { place: file.len() });
-        }
-        if !is_name_byte(file[place]) {
+        };
+        if !is_name_byte(*byte) {
             return Err(CardFault::NameByte { place });
         }
     }
@@ -68,7 +68,7 @@ fn read_name<'a>(reader: &mut Reader<'a>) -> Result<&'a [u8], CardFault>
     Ok(&reader.bytes[start..end])
 }
 
-// The flags of a state: 1 is a start state, 2 an accepting state, 3 both. A function and no `From`, since `State` is a type of another crate.
+// The state that flags tell: 1 is a start state, 2 an accepting state, 3 both. A function and no `From`, as not every number is flags of a state.
 fn state_of(flags: u32) -> State
     ensures { result ≡ state_of_flags flags }
 {
@@ -78,7 +78,7 @@ fn state_of(flags: u32) -> State
     }
 }
 
-// What has a card with a name.
+// A value that is read from a card with a name.
 pub(crate) trait OnCard: Copy {
     // the card that begins at a place
     ghost card_at: { List ℕ → ℕ → Result (Read (NamedValue Self)) CardFault };

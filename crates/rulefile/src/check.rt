@@ -10,9 +10,10 @@ use crate::rows::{Moves, States, write_rows};
 use codec::reader::Reader;
 use rules::Move;
 
-// How many state records and move records a caller has to lend, whatever the file needs.
+// How many state records a caller has to lend, whatever the file needs.
 const STATE_RECORDS: usize = 32;
 
+// How many move records a caller has to lend, whatever the file needs.
 const MOVE_RECORDS: usize = 1024;
 
 // Whether lists of these lengths hold the records of every good file.

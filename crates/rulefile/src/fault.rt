@@ -33,7 +33,7 @@ pub enum Refusal {
     File(FileFault),
 }
 
-// A `From` of its own: what a derive writes has no contract, and callers of `?` are to know which fault they carry.
+// A number's fault, carried whole. A `From` of its own: what a derive writes has no contract, and callers of `?` are to know which fault they carry.
 impl From<NumberFault> for FileFault {
     ghost from_gives = { λ x y. y ≡ FileFault.Number x };
 
@@ -42,6 +42,7 @@ impl From<NumberFault> for FileFault {
     }
 }
 
+// The version and the counts of a file have a range.
 impl RangeFault for FileFault {
     ghost short = { λ place. FileFault.Short place };
 
@@ -60,6 +61,7 @@ impl RangeFault for FileFault {
     ghost carries = { λ fault given is. is };
 }
 
+// A card's fault, carried whole.
 impl From<CardFault> for FileFault {
     ghost from_gives = { λ x y. y ≡ FileFault.Card x };
 
@@ -68,6 +70,7 @@ impl From<CardFault> for FileFault {
     }
 }
 
+// A file's fault, as the reason of a refusal.
 impl From<FileFault> for Refusal {
     ghost from_gives = { λ x y. y ≡ Refusal.File x };
 

@@ -8,17 +8,17 @@ pub struct Name {
     pub len: usize,
 }
 
-// A value with its name.
+// A value, and where its name lies in the file.
 #[derive(Clone, Copy, Default, PartialEq, Eq)]
 pub struct Record<T> {
     pub value: T,
     pub name: Name,
 }
 
-// A line card.
+// The record of a line card.
 pub type LineRecord = Record<Line>;
 
-// A state card.
+// The record of a state card.
 pub type StateRecord = Record<State>;
 
 // How many records a good file fills.

@@ -14,7 +14,7 @@ use crate::record::{LineRecord, Name, Record, StateRecord};
 use codec::reader::Reader;
 use rules::{Line, Move, State};
 
-// The place of a reader has a byte; else the file is short.
+// Checks that a byte stands at the reader's place; else the file is short.
 fn check_more(reader: &Reader) -> Result<(), FileFault>
     ensures more { IfOk result (λ _. reader.now.at < length reader.now.bytes.now) }
     ensures none { IfErr result (λ e. (length reader.now.bytes.now ≤ reader.now.at) × (e ≡ FileFault.Short (length reader.now.bytes.now))) }
@@ -52,7 +52,7 @@ fn follows_last(last: Option<Move>, next: Move) -> bool
     last.is_none_or(|last| last < next)
 }
 
-// What stands in a row in a file. Each may depend on those before it.
+// A kind of entry that a file has in a row; how one is read may depend on those before it.
 pub(crate) trait Rows: Copy {
     type Row: Copy;
 
@@ -68,7 +68,7 @@ pub(crate) trait Rows: Copy {
         ensures bytes { reader.new.bytes ≡ reader.old.bytes }
         ensures after { IfOk result (λ row. self.new ≡ kept self.old row) };
 
-    // Whether two rows are the same.
+    // Whether two rows are the same. A method and no `==`: of a `PartialEq` that is any, it is not known that it is equality.
     fn is_same(a: Self::Row, b: Self::Row) -> bool
         ensures { Decides result (a ≡ b) };
 }
@@ -125,7 +125,7 @@ pub(crate) struct Moves {
 }
 
 impl Moves {
-    // The moves between so many states.
+    // The moves between this many states.
     pub(crate) fn between(states: u32) -> Moves
         requires { (0 < states) × (states ≤ 32) }
         ensures { result ≡ record { highest = states - 1; last = None } }
@@ -160,7 +160,7 @@ impl Rows for Moves {
     }
 }
 
-// Reads so many rows, and gives what is kept of them.
+// Reads `count` rows, and gives what is kept of them.
 pub(crate) fn pass_rows<R: Rows>(
     mut rows: R,
     reader: &mut Reader,

@@ -13,7 +13,8 @@ pub use theorems::{
 
 mod display;
 
-// One of the six lines: what a poll of it costs, 1 to 1,000 milliseconds, and its chance of being on, 0 to 100 hundredths.
+// One of the six lines: what a poll of it costs, 1 to 1,000 milliseconds, and its chance of being on, 0 to 100 hundredths. The default, of cost 0, is no
+// line: it stands where none is read yet.
 #[derive(Clone, Copy, Default, PartialEq, Eq)]
 pub struct Line {
     pub cost: u16,

@@ -1,4 +1,4 @@
-// The theorems that stand on the definitions alone, each on a function that only carries it.
+// The theorems that stand on the definitions alone, each on a function that only carries it. The number that such a function answers means nothing.
 ghost use Rattle.rules.specs.Theorems.{EndingsReachLive, SafeKeepsEndings, NoEndingStays, PrunedDetermined, SelectedPruned, ServesImplements};
 ghost use Rattle.rules.specs.Theorems.{BestFitted, FittedDetermined, MeasuresLawful, ExpectedIsMean, TreesSmall, LayoutStands, StandsDetermined};
 ghost use Rattle.rules.specs.Theorems.{VerdictShown, HeldMeans, FittedSound, ClearPollsNothing, PromiseDetermined, PromiseKept};

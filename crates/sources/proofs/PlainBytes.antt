@@ -1,26 +1,33 @@
 -- A plain log is taken exactly where each byte is an event.
-use Rattle.std.proofs.Common.{◌≡◌, ℕ, ◌+◌, ◌<◌, ◌≤◌, Bool, true, false, cond, ltb, List, [], ◌∷◌, length, get_or, drop, is_ok, Ok, Err, Decides, Result, refl}
-use Rattle.std.proofs.lemmas.List.{drop_more, drop_all}
+use Rattle.std.proofs.Common.{◌≡◌, ℕ, ◌+◌, Bool, true, false, cond, ltb, List, [], ◌∷◌, is_ok, not, Some, None, Ok, Err, Decides, Result, refl, ap}
+use Rattle.std.specs.List.{position_from}
 use Rattle.std.proofs.lemmas.Bool.{lt-ltb, ltb-true, both_ways}
 use Rattle.codec.specs.declared.fault.CardFault.{CardFault}
 use Rattle.codec.specs.declared.fault.CardFault.TheVariants.{Range}
 use Rattle.sources.specs.PlainLogs.{log_from}
 use Rattle.sources.specs.Waiting.{AllEvents}
 
--- a byte that is no event is the fault
-pub fault_here : (bytes : List ℕ) (p : ℕ) → p < length bytes → ltb (get_or bytes p 0) 64 ≡ false → log_from p (drop p bytes) ≡ Err (Range p)
+-- a log without a byte that is no event is taken
+pub log_taken : (p : ℕ) (bytes : List ℕ) → position_from (λ byte. not (ltb byte 64)) p bytes ≡ None → log_from p bytes ≡ Ok tt
 unfolding log_from
-fault_here bytes p h e = let d = drop_more bytes p 0 h in rw (d, e)
+log_taken p [] h = refl
+log_taken p (byte ∷ bytes) h = go (ltb byte 64) h (log_taken (p + 1) bytes)
+  where
+    go : (b : Bool) → cond (not b) (Some p) (position_from (λ byte. not (ltb byte 64)) (p + 1) bytes) ≡ None → (position_from (λ byte. not (ltb byte 64)) (p + 1) bytes ≡ None → log_from (p + 1) bytes ≡ Ok tt)
+        → cond b (log_from (p + 1) bytes) (Err (Range p)) ≡ Ok tt
+    go true h rest = rest h
+    go false h rest = absurd cc
 
--- one that is an event leaves the rest
-pub event_here : (bytes : List ℕ) (p : ℕ) → p < length bytes → ltb (get_or bytes p 0) 64 ≡ true → log_from p (drop p bytes) ≡ log_from (p + 1) (drop (p + 1) bytes)
+-- the first byte that is no event is the fault
+pub log_fault : (p : ℕ) (bytes : List ℕ) (i : ℕ) → position_from (λ byte. not (ltb byte 64)) p bytes ≡ Some i → log_from p bytes ≡ Err (Range i)
 unfolding log_from
-event_here bytes p h e = let d = drop_more bytes p 0 h in rw (d, e)
-
--- no byte is left
-pub none_here : (bytes : List ℕ) (p : ℕ) → length bytes ≤ p → log_from p (drop p bytes) ≡ Ok tt
-unfolding log_from
-none_here bytes p h = let d = drop_all p bytes h in rw d
+log_fault p [] i h = absurd cc
+log_fault p (byte ∷ bytes) i h = go (ltb byte 64) h (log_fault (p + 1) bytes i)
+  where
+    go : (b : Bool) → cond (not b) (Some p) (position_from (λ byte. not (ltb byte 64)) (p + 1) bytes) ≡ Some i → (position_from (λ byte. not (ltb byte 64)) (p + 1) bytes ≡ Some i → log_from (p + 1) bytes ≡ Err (Range i))
+        → cond b (log_from (p + 1) bytes) (Err (Range p)) ≡ Err (Range i)
+    go true h rest = rest h
+    go false h rest = let q : p ≡ i = cc in ap (λ k. Err (Range k)) q
 
 taken_events : (p : ℕ) (bytes : List ℕ) → is_ok (log_from p bytes) ≡ true → AllEvents bytes
 unfolding log_from

@@ -62,9 +62,7 @@ fn next_run(bytes: &[u8], at: usize, event: u8) -> Option<Run>
     ensures { result ≡ run_of event (pair_at bytes.now at) }
 {
     let mut reader = Reader { bytes, at };
-    let Ok(pair) = read_pair(&mut reader) else {
-        return None;
-    };
+    let pair = read_pair(&mut reader).ok()?;
     Some(Run {
         next: reader.at,
         current: event ^ pair.flips,
@@ -124,6 +122,7 @@ impl<'a> ChangeLog<'a> {
     }
 }
 
+// A change log as a source: the events that are still to be played.
 impl LineSource for ChangeLog<'_> {
     ghost events = { λ s. played_from s.bytes.now s.run };
 
@@ -138,9 +137,7 @@ impl LineSource for ChangeLog<'_> {
     }
 
     fn drop_first(&mut self) -> Result<(), SourceRefusal> {
-        let Some(run) = self.run else {
-            return Err(SourceRefusal::NothingWaiting);
-        };
+        let run = self.run.ok_or(SourceRefusal::NothingWaiting)?;
         self.run = run_after(self.bytes, run);
         Ok(())
     }

@@ -8,7 +8,7 @@ pub mod plain;
 pub mod source;
 pub mod wiring;
 
-// The laws of change logs and wirings.
+// The laws of change logs and wirings. The number that is answered means nothing.
 pub fn laws_stand() -> u8
     ensures flipped { FlippedLines }
     ensures flips { FlipsCancel }

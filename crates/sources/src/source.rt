@@ -76,10 +76,8 @@ pub(crate) fn poll_event(first: Option<u8>, line: u8) -> Result<bool, SourceRefu
     if line >= LINES {
         return Err(SourceRefusal::NoSuchLine);
     }
-    match first {
-        Some(event) => Ok(is_on(event, line)),
-        None => Err(SourceRefusal::NothingWaiting),
-    }
+    let event = first.ok_or(SourceRefusal::NothingWaiting)?;
+    Ok(is_on(event, line))
 }
 
 // An event with one of its lines on. There is no line past 5: there the event stays as it is.
@@ -112,8 +110,7 @@ pub fn drain<S: LineSource>(source: &mut S) -> u64
     ensures after { S.LineSource.events source.new ≡ [] }
 {
     let mut count = 0u64;
-    while (*source).waiting() {
-        let _ = (*source).drop_first();
+    while (*source).drop_first().is_ok() {
         count = count.saturating_add(1);
     }
     count

@@ -3,10 +3,7 @@ ghost use Rattle.std.specs.Prelude.{◌≡◌, ℕ, ◌<◌, true, false, is_ok,
 ghost use Rattle.sources.specs.Small.{rewired_small};
 ghost use Rattle.sources.specs.Wirings.{IsWiring, all_lines, checked_wiring, rewired_all, straight, turned_by, wired_events, wiring_fits, wiring_number};
 
-use crate::source::{LINES, LineSource, SourceRefusal, is_on};
-
-// How many sets of lines there are.
-const SETS: u8 = 64;
+use crate::source::{LINES, LineSource, SourceRefusal, is_event, is_on};
 
 // The entries of the wiring that changes nothing.
 const STRAIGHT: [u8; 6] = [0, 1, 2, 3, 4, 5];
@@ -34,13 +31,6 @@ fn is_line(entry: u8) -> bool
     entry < LINES
 }
 
-// Whether a set has lines alone.
-fn is_lines(set: u8) -> bool
-    ensures { result ≡ nat_lt set 64 }
-{
-    set < SETS
-}
-
 // Whether each entry names a line.
 fn are_lines(entries: [u8; 6]) -> bool
     ensures { result ≡ all_lines entries }
@@ -48,11 +38,11 @@ fn are_lines(entries: [u8; 6]) -> bool
     entries.iter().all(|entry| is_line(*entry))
 }
 
-// Whether each entry names a line and the turned set has lines alone.
+// Whether each entry names a line and the turned set has no members but lines. Such a set is the event in which its members are the lines that are on.
 fn is_fitting(entries: [u8; 6], turned: u8) -> bool
     ensures { result ≡ wiring_fits entries turned }
 {
-    are_lines(entries) && is_lines(turned)
+    are_lines(entries) && is_event(turned)
 }
 
 // Whether these are the entries and the turned set of a wiring.
@@ -109,6 +99,7 @@ impl<S: LineSource> Wiring<S> {
     }
 }
 
+// A wiring as a source: the events of the source below, rewired.
 impl<S: LineSource> LineSource for Wiring<S> {
     ghost events = { λ s. rewired_all s.entries s.turned (S.LineSource.events s.below) };
 

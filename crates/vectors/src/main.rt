@@ -45,6 +45,7 @@ fn run<F: Fn(&[u8], &str) -> Option<bool>>(rt: &HostRuntime, file: &str, test: F
     println!(rt; "{file}: {agree} agree, {differ} differ")
 }
 
+// Runs the three files of expected answers, each with its own test.
 fn main(rt: HostRuntime) -> io::Result<()> {
     let heap = rt.alloc();
     run(&rt, "reader.tsv", |bytes, wanted| {

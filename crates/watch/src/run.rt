@@ -20,13 +20,6 @@ pub struct Ran {
     pub made: usize,
 }
 
-// How many calls are made: as many as there are, and as there is room for answers.
-fn count_made(calls: usize, answers: usize) -> usize
-    ensures { result ≡ min calls answers }
-{
-    calls.min(answers)
-}
-
 impl Watch<'_, '_> {
     // Makes one call, and answers what it answers.
     pub fn make<S: LineSource>(&mut self, source: &mut S, call: Call) -> Result<Answer, Refusal>
@@ -57,8 +50,9 @@ fn watch_calls<S: LineSource>(
     ensures rest { drop result answers.new ≡ drop result answers.old }
 {
     let mut watch = Watch::arm(plan);
-    let made = count_made(calls.len(), answers.len());
-    // By `zip` a proof would know nothing of the answers that were written, so the calls are taken from an iterator of their own.
+    let made = calls.len().min(answers.len());
+    // The calls are taken from an iterator of their own: by `zip` a proof would know nothing of the answers that were written, and by `enumerate` over
+    // the answers that are made the clause `called` was not proved.
     let mut rest = calls.iter();
     for answer in answers.iter_mut() {
         let Some(call) = rest.next() else { break };

@@ -25,12 +25,13 @@ const NONE_SAFE: [u8; 37] = [
     2, 0, 1, 2, 1,
 ];
 
-// The drawn example, and the same with one more move, which keeps state 0 safe.
+// The drawn example.
 const DRAWN: [u8; 52] = [
     1, 1, 0, 0, 1, 0, 0, 1, 0, 0, 1, 0, 0, 1, 0, 0, 1, 0, 0, 5, 1, 0, 2, 0, 2, 0, 0, 0, 0, 0, 7, 0,
     1, 1, 0, 1, 3, 0, 2, 2, 1, 0, 1, 2, 2, 2, 3, 0, 3, 4, 0, 1,
 ];
 
+// The drawn example with one more move, which keeps state 0 safe.
 const DRAWN_SAFE: [u8; 55] = [
     1, 1, 0, 0, 1, 0, 0, 1, 0, 0, 1, 0, 0, 1, 0, 0, 1, 0, 0, 5, 1, 0, 2, 0, 2, 0, 0, 0, 0, 0, 8, 0,
     1, 1, 0, 1, 3, 0, 2, 0, 0, 2, 2, 1, 0, 1, 2, 2, 2, 3, 0, 3, 4, 0, 1,
@@ -47,6 +48,7 @@ struct Told {
 }
 
 impl Told {
+    // What is told of this draft.
     fn of(draft: &Draft) -> Told {
         let pruning = Pruning::of(draft);
         let sets = pruning.sets(1);

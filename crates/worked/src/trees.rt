@@ -13,10 +13,12 @@ fn fit_worked<M: Measure>(measure: &M, nodes: &mut [Node]) -> Result<Fitting, Fi
     with_draft(&RULE, |draft| fit(measure, draft, nodes))
 }
 
+// A fork on a line, with the places of its two parts.
 fn fork(line: u8, on: u16, off: u16) -> Node {
     Node::Fork { line, on, off }
 }
 
+// A leaf that gives a set.
 fn leaf(set: u32) -> Node {
     Node::Leaf { set }
 }
@@ -57,6 +59,7 @@ fn worst_cost(rt: HostRuntime) -> Result<(), Fail> {
     Ok(())
 }
 
+// The lists are not written, so the draft has one state and no moves; too few nodes are refused for any draft.
 #[test]
 fn few_nodes(rt: HostRuntime) -> Result<(), Fail> {
     let states = [StateRecord::default(); 32];

@@ -11,8 +11,9 @@ use rules::{Line, Node};
 pub mod access;
 pub mod make;
 
-// The draft, the nodes with each state's top place, the lines, and the live, the safe, the start and the release states as sets, bit q for the
-// state q. Each state's tree can be walked down from its top, and gives the state's pruned sets.
+// A plan: the draft, the nodes with each state's top place, the lines, and the live, the safe, the start and the release states as sets, bit q for the
+// state q. Each state's tree can be walked down from its top, and gives the state's pruned sets. There is a top for each of 32 states, since a plan
+// takes no memory from a heap.
 #[derive(Drop)]
 pub struct Plan<'a> {
     draft: Draft<'a>,

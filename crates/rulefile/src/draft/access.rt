@@ -7,7 +7,7 @@ ghost use Rattle.rulefile.specs.Draft.{draft_rule, named_option, card_option, ca
 
 use crate::card::{Card, LineCard, Named, StateCard};
 use crate::draft::Draft;
-use crate::record::{LineRecord, Name, Record, StateRecord};
+use crate::record::{Name, Record, StateRecord};
 use rules::{Line, Move};
 
 // The bytes of a name that lies in the file, as far as the file has them.
@@ -27,13 +27,6 @@ fn named<'a, T: Copy>(file: &'a [u8], place: &Record<T>) -> Named<'a, T>
         value: place.value,
         name,
     }
-}
-
-// A line without its name.
-fn line_of(card: LineRecord) -> Line
-    ensures { result ≡ card.value }
-{
-    card.value
 }
 
 impl<'a> Draft<'a> {
@@ -62,23 +55,21 @@ impl<'a> Draft<'a> {
     pub fn lines(&self) -> [Line; 6]
         ensures { result ≡ map (λ l. l.value) (draft_rule self.now).lines }
     {
-        self.lines.map(line_of)
+        self.lines.map(|line| line.value)
     }
 
     // The records of the states, in their order.
     pub fn states(&self) -> &'a [StateRecord]
         ensures { result.now ≡ self.now.states.now }
     {
-        let states: &'a [StateRecord] = self.states;
-        states
+        self.states
     }
 
     // The moves, in their order.
     pub fn moves(&self) -> &'a [Move]
         ensures { result.now ≡ (draft_rule self.now).moves }
     {
-        let moves: &'a [Move] = self.moves;
-        moves
+        self.moves
     }
 
     // The card with the number `i`: the lines come first, then the states, then the moves.

@@ -16,6 +16,7 @@ static EMPTY_FILE: [u8; 23] = [
     1, 1, 0, 0, 1, 0, 0, 1, 0, 0, 1, 0, 0, 1, 0, 0, 1, 0, 0, 1, 1, 0, 0,
 ];
 
+// The one state of the empty draft: a start state without a name.
 static EMPTY_STATES: [StateRecord; 1] = [StateRecord {
     value: State {
         start: true,
@@ -24,6 +25,7 @@ static EMPTY_STATES: [StateRecord; 1] = [StateRecord {
     name: Name { at: 22, len: 0 },
 }];
 
+// The moves of the empty draft: none.
 static EMPTY_MOVES: [Move; 0] = [];
 
 // A nameless line of cost 1 and chance 0, whose name would stand at `at`.

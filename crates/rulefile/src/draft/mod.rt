@@ -8,7 +8,7 @@ use rules::Move;
 pub mod access;
 pub mod make;
 
-// The file is good, and the records are what it holds.
+// A draft: a good file, and the records of what it holds.
 #[derive(Drop)]
 pub struct Draft<'a> {
     file: &'a [u8],

@@ -27,8 +27,8 @@ impl Drop for Rehearsal<'_> {
     fn drop(self)
         ensures { self.exit.0.now ≡ self.entry.saved }
     {
-        *self.state = self.saved;
-        let Rehearsal { state: _, saved: _ } = self;
+        let Rehearsal { state, saved } = self;
+        *state = saved;
     }
 }
 

@@ -1,20 +1,16 @@
--- Each turn judges one byte.
-use Rattle.std.proofs.Common.{sym, ◌∙◌, arith}
-use Rattle.sources.proofs.PlainBytes.{fault_here, event_here, none_here, log_exact_at}
+-- The fault is at the first byte that is no event.
+use Rattle.std.proofs.Common.{sym}
+use Rattle.sources.proofs.PlainBytes.{log_taken, log_fault, log_exact_at}
 use Rattle.sources.proofs.plain.check_log.Goals as goal
 
-pub returns-then-not-is_event : goal.returns-then-not-is_event
-returns-then-not-is_event c =
+pub returns-in-Some : goal.returns-in-Some
+returns-in-Some c =
     let bytes = c.args.bytes.now in
-    let e = sym (fault_here bytes c.loop-place.place (omega arith) (sym c.if-not-is_event.ensures)) ∙ c.loop-place.invariant in
+    let e = sym (log_fault 0 bytes c.in-Some.place (sym c.in-Some.ensures)) in
     record { fault = e; exact = log_exact_at bytes _ e }
 
-pub loop-place-preserved : goal.loop-place-preserved
-loop-place-preserved c =
-    sym (event_here c.args.bytes.now c.loop-place.place (omega arith) (sym c.if-not-is_event.ensures)) ∙ c.loop-place.invariant
-
-pub returns : goal.returns
-returns c =
+pub returns-in-None : goal.returns-in-None
+returns-in-None c =
     let bytes = c.args.bytes.now in
-    let e = sym (none_here bytes c.loop-place.place (omega arith)) ∙ c.loop-place.invariant in
+    let e = sym (log_taken 0 bytes (sym c.in-None.ensures)) in
     record { fault = e; exact = log_exact_at bytes _ e }

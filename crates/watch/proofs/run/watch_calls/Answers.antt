@@ -38,17 +38,17 @@ pub returns-after-loop-answer : goal.returns-after-loop-answer
 returns-after-loop-answer g c =
     let i = c.loop-answer.answer-index in
     let so_far = c.loop-answer.invariant in
-    let all : i ≡ c.count_made-made.result = omega (arith, c.count_made-made.ensures, so_far.within, c.loop-answer-test.false, c.loop-answer.auto.answer-index-end) in
-    let (called, rest) = calls_all c.args.plan.now c.args.calls.now (g.S.LineSource.events c.args.source.now) c.args.answers.now c.loop-answer.answers i c.count_made-made.result
+    let all : i ≡ c.min-made.result = omega (arith, c.min-made.ensures, so_far.within, c.loop-answer-test.false, c.loop-answer.auto.answer-index-end) in
+    let (called, rest) = calls_all c.args.plan.now c.args.calls.now (g.S.LineSource.events c.args.source.now) c.args.answers.now c.loop-answer.answers i c.min-made.result
     c.loop-answer.watch.state (g.S.LineSource.events c.loop-answer.source) all so_far.called so_far.kept in
-    record { made = c.count_made-made.ensures; called = called; rest = rest }
+    record { made = c.min-made.ensures; called = called; rest = rest }
 
 pub returns-in_default : goal.returns-in_default
 returns-in_default g c =
     let i = c.loop-answer.answer-index in
     let so_far = c.loop-answer.invariant in
     let none : length c.args.calls.now ≤ i = omega (arith, c.in_default.ensures.steps.0, ap length so_far.left, length-drop i c.args.calls.now) in
-    let all : i ≡ c.count_made-made.result = omega (arith, c.count_made-made.ensures, so_far.within, none, c.loop-answer-test.true) in
-    let (called, rest) = calls_all c.args.plan.now c.args.calls.now (g.S.LineSource.events c.args.source.now) c.args.answers.now c.loop-answer.answers i c.count_made-made.result
+    let all : i ≡ c.min-made.result = omega (arith, c.min-made.ensures, so_far.within, none, c.loop-answer-test.true) in
+    let (called, rest) = calls_all c.args.plan.now c.args.calls.now (g.S.LineSource.events c.args.source.now) c.args.answers.now c.loop-answer.answers i c.min-made.result
     c.loop-answer.watch.state (g.S.LineSource.events c.loop-answer.source) all so_far.called so_far.kept in
-    rw set-get_or (record { made = c.count_made-made.ensures; called = called; rest = rest })
+    rw set-get_or (record { made = c.min-made.ensures; called = called; rest = rest })

@@ -22,5 +22,6 @@ overflow_add-result c = Fits-below {n = 6000000000000000} tt (omega (arith, smal
 pub overflow_mul-result-2 : goal.overflow_mul-result-2
 overflow_mul-result-2 c = Fits-below {n = 6000000000000000} tt (omega (arith, small (goal.at.overflow_mul-result-2 c).After-hundred_to))
 
+-- twice that is room for any two shares that are small
 pub overflow_add-result-2 : goal.overflow_add-result-2
-overflow_add-result-2 c = Fits-below {n = 6000000000000000} tt (omega (arith, small (goal.at.overflow_add-result-2 c).After-hundred_to))
+overflow_add-result-2 c = Fits-below {n = 12000000000000000} tt (omega (arith, small (goal.at.overflow_add-result-2 c).After-hundred_to))
