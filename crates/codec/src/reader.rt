@@ -15,39 +15,53 @@ pub struct Reader<'a> {
 }
 
 // Reads one, two or three bytes at the place, as a number. It stands beside `read_number`, since the proof did not close with the steps in the method.
-#[tactic(auto, using(crate::proofs::Numbers::exact_from))]
+// This and the calls over it are put in where they are called, as the place of a reader else goes through memory at each number.
+#[inline(always)]
 fn decode(bytes: &[u8], at: &mut usize) -> Result<u32, NumberFault>
+    ensures value { read_to result at.new ≡ number_at bytes.now at.old }
+    ensures refused { OnErr result (at.new ≡ at.old) }
+    ensures within { IfOk result (λ _. (at.old < at.new) × (at.new ≤ length bytes.now)) }
+{
+    let place = *at;
+    let short = NumberFault::Short { place: bytes.len() };
+    let form = NumberFault::Form { place };
+    let first = *bytes.get(place).ok_or(short)?;
+    if first < 128 {
+        *at = place + 1;
+        return Ok(u32::from(first));
+    }
+    let second = *bytes.get(place + 1).ok_or(short)?;
+    if second == 0 {
+        return Err(form);
+    }
+    if second < 128 {
+        *at = place + 2;
+        return Ok(u32::from(first) - 128 + 128 * u32::from(second));
+    }
+    let third = *bytes.get(place + 2).ok_or(short)?;
+    if third == 0 || third >= 128 {
+        return Err(form);
+    }
+    *at = place + 3;
+    let low = u32::from(first) - 128 + 128 * (u32::from(second) - 128);
+    Ok(low + 16384 * u32::from(third))
+}
+
+// The same, which is exact for the encoding, as bytes are below 256.
+#[inline(always)]
+#[tactic(auto, using(crate::proofs::Numbers::exact_from))]
+fn decode_exactly(bytes: &[u8], at: &mut usize) -> Result<u32, NumberFault>
     ensures value { read_to result at.new ≡ number_at bytes.now at.old }
     ensures refused { OnErr result (at.new ≡ at.old) }
     ensures within { IfOk result (λ _. (at.old < at.new) × (at.new ≤ length bytes.now)) }
     ensures exact { (v q : ℕ) → (read_to result at.new ≡ Ok (record { value = v; next = q })) ↔ IsNumber bytes.now at.old v q }
 {
-    let short = NumberFault::Short { place: bytes.len() };
-    let form = NumberFault::Form { place: *at };
-    match *bytes.get(*at..).unwrap_or_default() {
-        [] => Err(short),
-        [first @ 0..128, ..] => {
-            *at += 1;
-            Ok(u32::from(first))
-        }
-        [_] => Err(short),
-        [_, 0, ..] => Err(form),
-        [first, second @ 0..128, ..] => {
-            *at += 2;
-            Ok(u32::from(first) - 128 + 128 * u32::from(second))
-        }
-        [_, _] => Err(short),
-        [_, _, 0 | 128.., ..] => Err(form),
-        [first, second, third, ..] => {
-            *at += 3;
-            let low = u32::from(first) - 128 + 128 * (u32::from(second) - 128);
-            Ok(low + 16384 * u32::from(third))
-        }
-    }
+    decode(bytes, at)
 }
 
 impl Reader<'_> {
     // Reads the number that begins at the place. It is read exactly where the bytes there begin with its encoding; else the reader stays where it is.
+    #[inline(always)]
     pub fn read_number(&mut self) -> Result<u32, NumberFault>
         ensures value { read_to result self.new.at ≡ number_at self.old.bytes.now self.old.at }
         ensures kept { self.new.bytes ≡ self.old.bytes }
@@ -55,10 +69,11 @@ impl Reader<'_> {
         ensures within { IfOk result (λ _. (self.old.at < self.new.at) × (self.new.at ≤ length self.old.bytes.now)) }
         ensures exact { (v q : ℕ) → (read_to result self.new.at ≡ Ok (record { value = v; next = q })) ↔ IsNumber self.old.bytes.now self.old.at v q }
     {
-        decode(self.bytes, &mut self.at)
+        decode_exactly(self.bytes, &mut self.at)
     }
 
     // Reads the number from `low` to `high` that begins at the place; else the reader stays where it is, and the fault is in the words of a layer.
+    #[inline(always)]
     pub fn read_ranged<F: RangeFault>(&mut self, low: u32, high: u32) -> Result<u32, F>
         ensures value { read_to result self.new.at ≡ ranged_at F.short F.carried F.outside self.old.bytes.now self.old.at low high }
         ensures kept { self.new.bytes ≡ self.old.bytes }
@@ -78,6 +93,7 @@ impl Reader<'_> {
     }
 
     // Reads the number from `low` to `high` inside a card that begins at the place; else the reader stays where it is.
+    #[inline(always)]
     pub fn read_field(&mut self, low: u32, high: u32) -> Result<u32, CardFault>
         ensures value { read_to result self.new.at ≡ field_at self.old.bytes.now self.old.at low high }
         ensures kept { self.new.bytes ≡ self.old.bytes }

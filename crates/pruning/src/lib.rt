@@ -20,6 +20,9 @@ mod safe;
 mod select;
 pub mod states;
 
+// How many events there are: each of six lines on or off.
+const EVENTS: u8 = 64;
+
 // A draft with its live and its safe states.
 #[derive(Clone, Copy)]
 pub struct Pruning<'d, 'a> {
@@ -91,7 +94,22 @@ impl<'d, 'a> Pruning<'d, 'a> {
         ensures none { 64 ≤ event → result ≡ 0 }
         ensures past { length (rule_of self.now.draft.now).states ≤ state → result ≡ 0 }
     {
-        self.sets(state).get(event as usize).copied().unwrap_or(0)
+        if event < EVENTS {
+            self.pruned_set(state, event)
+        } else {
+            0
+        }
+    }
+
+    // The pruned set of a state at an event. It is not read off the sets of all 64 events, which would each be gathered for one.
+    fn pruned_set(&self, state: u8, event: u8) -> u32
+        requires { event < 64 }
+        ensures { result ≡ pruned_set (rule_of self.now.draft.now) state event }
+    {
+        match self.steady_set(state) {
+            Some(set) => set,
+            None => self.selected_at(state, event),
+        }
     }
 
     // The pruned sets of a state, by event.

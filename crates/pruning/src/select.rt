@@ -1,5 +1,6 @@
 // What an event, and each of the 64 events, selects from the moves of a state that pruning keeps.
-ghost use Rattle.std.specs.Prelude.{◌≡◌, ℕ, ◌^◌, ◌<◌, length, if◌then◌else◌, bit_or, nat_eq, slice_index};
+ghost use Rattle.std.specs.Prelude.{◌≡◌, ℕ, ◌^◌, ◌<◌, ◌&&◌, length, if◌then◌else◌, ◌==◌, bit_or, nat_eq, slice_index};
+ghost use Rattle.events.specs.Cells.{covers};
 ghost use Rattle.events.specs.Sets.{has};
 ghost use Rattle.pruning.specs.Drafts.{rule_of};
 ghost use Rattle.pruning.specs.Computed.{lowest_member, selected_kept};
@@ -7,7 +8,8 @@ ghost use Rattle.pruning.specs.Computed.{lowest_member, selected_kept};
 use crate::Pruning;
 use crate::moves::{Moves, goes_into};
 use crate::states::{first, holds, only};
-use events::{events_of, members_of};
+use events::{contains, events_of, members_of};
+use rules::Move;
 
 // Adds a bit to the set of each covered event, and leaves the other sets as they are.
 fn add_to_covered(sets: &mut [u32; 64], covered: u64, bit: u32)
@@ -17,6 +19,14 @@ fn add_to_covered(sets: &mut [u32; 64], covered: u64, bit: u32)
     for event in members_of(covered) {
         sets[event as usize] |= bit;
     }
+}
+
+// Whether an event selects the target of a move from the state into the set.
+fn selects(m: Move, state: u8, set: u32, event: u8) -> bool
+    requires { (m.cell < 729) × (event < 64) }
+    ensures { result ≡ ((m.from == state && has set m.to) && covers m.cell event) }
+{
+    goes_into(m, state, set) && contains(events_of(m.cell), event)
 }
 
 impl Pruning<'_, '_> {
@@ -40,6 +50,21 @@ impl Pruning<'_, '_> {
         } else {
             0
         }
+    }
+
+    // The states that an event selects from the moves of a state to live states, each safe one replaced by the release state.
+    pub(crate) fn selected_at(&self, state: u8, event: u8) -> u32
+        requires { event < 64 }
+        ensures { result ≡ selected_kept (rule_of self.now.draft.now).moves self.now.live self.now.safe (lowest_member self.now.safe) state event }
+    {
+        let moves = Moves::of(self.draft);
+        let mut set = 0;
+        for m in moves.all {
+            if selects(*m, state, self.live, event) {
+                set |= only(self.stand_in(m.to));
+            }
+        }
+        set
     }
 
     // The states that each event selects from the moves of a state to live states, each safe one replaced by the release state, in one pass over the moves.

@@ -18,7 +18,7 @@ use Rattle.sources.specs.declared.change.Run.{Run}
 use Rattle.events.proofs.SetLaws.{set_of_small}
 use Rattle.sources.specs.Wirings.{rewired, rewired_all}
 use Rattle.sources.specs.Waiting.{AllEvents}
-use Rattle.sources.specs.ChangeLogs.{expand, pair_at, pairs_within, pairs_from, pairs_or, played_from, IsPlayable}
+use Rattle.sources.specs.ChangeLogs.{expand, pair_at, pairs_within, pairs_from, pairs_or, played_from}
 
 -- ---- a plain log
 
@@ -89,12 +89,12 @@ expand_small (pair ∷ pairs) event h t =
     All-append (λ e. e < 64) _ _ (same_small pair.count _ next) (expand_small pairs (bit_xor event pair.flips) next t.1)
 
 -- what is left of a change log
-pub change_small : (f : List ℕ) (run : Option Run) → ForSome run (IsPlayable f) → AllEvents (played_from f run)
+pub change_small : (f : List ℕ) (run : Option Run) → ForSome run (λ r. r.current < 64) → AllEvents (played_from f run)
 change_small f None h = tt
 change_small f (Some run) h =
-    let p = h run refl in
-    All-append (λ e. e < 64) _ _ (same_small run.left run.current p.small)
-    (expand_small (pairs_or (pairs_from f run.next)) run.current p.small (pairs_small (length f) f run.next))
+    let low : run.current < 64 = h run refl in
+    All-append (λ e. e < 64) _ _ (same_small run.left run.current low)
+    (expand_small (pairs_or (pairs_from f run.next)) run.current low (pairs_small (length f) f run.next))
 
 -- ---- a wiring
 

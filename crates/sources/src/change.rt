@@ -26,6 +26,7 @@ pub struct Pair {
 }
 
 // Reads the pair that begins at the place.
+#[inline(always)]
 fn read_pair(reader: &mut Reader) -> Result<Pair, CardFault>
     ensures value { read_to result reader.new.at ≡ pair_at reader.old.bytes.now reader.old.at }
     ensures kept { reader.new.bytes ≡ reader.old.bytes }
@@ -126,7 +127,7 @@ impl<'a> ChangeLog<'a> {
 impl LineSource for ChangeLog<'_> {
     ghost events = { λ s. played_from s.bytes.now s.run };
 
-    ghost small = { λ s. change_small s.bytes.now s.run s.playable };
+    ghost small = { λ s. change_small s.bytes.now s.run (λ run is. (s.playable run is).small) };
 
     fn waiting(&self) -> bool {
         self.first().is_some()

@@ -25,10 +25,9 @@ pub(crate) fn tree_answer(heap: Global, file: &[u8], measure: &str) -> Option<St
     let mut states = [StateRecord::default(); 32];
     let mut moves = [Move::default(); 1024];
     let _ = check_rule(file, &mut states, &mut moves).ok()?;
-    let draft = make_draft(file, &states, &moves);
     match measure {
-        "expected" => fitted_answer(heap, &Expected, &draft),
-        "worst" => fitted_answer(heap, &Worst, &draft),
+        "expected" => fitted_answer(heap, &Expected, &make_draft(file, &states, &moves)),
+        "worst" => fitted_answer(heap, &Worst, &make_draft(file, &states, &moves)),
         _ => None,
     }
 }

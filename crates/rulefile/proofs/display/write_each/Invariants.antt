@@ -1,7 +1,7 @@
 use Rattle.std.proofs.Common.{take}
 use lib.Utf8.{encodes}
 use Rattle.std.specs.Fmt.{HasWritten, IsPlainFormatter}
-use Rattle.rulefile.proofs.display.write_characters.Given as goal
+use Rattle.rulefile.proofs.display.write_each.Given as goal
 
 abbrev pub invariant-loop-byte : goal.invariant-loop-byte
 invariant-loop-byte g l =

@@ -1,7 +1,7 @@
 use Rattle.std.proofs.Common.{rules}
 use Rattle.std.proofs.Output.{has_written_append, has_written_of_eq}
 use Rattle.rulefile.proofs.Characters.{character_more}
-use Rattle.rulefile.proofs.display.write_characters.Goals as goal
+use Rattle.rulefile.proofs.display.write_each.Goals as goal
 
 pub loop-byte-preserved : goal.loop-byte-preserved
 loop-byte-preserved g c p =
