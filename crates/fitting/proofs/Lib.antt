@@ -7,7 +7,6 @@ pub mod Writing
 pub mod StateLaws
 pub mod Layouts
 pub mod AllStates
-pub mod Nodes
 pub mod ReadLaws
 pub mod OneState
 pub mod PlanLaws

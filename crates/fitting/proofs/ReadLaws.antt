@@ -119,7 +119,7 @@ module _ (price : Price) (rule : Rule) (before after : List Node) (told : Fittin
   front_is = ap (take told.behind) fit.nodes ∙ take_at (layout fit.trees) (drop told.behind before) told.behind (sym fit.behind_is)
 
   -- nodes that start with it have the same front
-  front_starts : (nodes rest : List Node) → nodes ≡ take told.behind after ++ rest → take told.behind after ≡ take told.behind nodes
+  pub front_starts : (nodes rest : List Node) → nodes ≡ take told.behind after ++ rest → take told.behind after ≡ take told.behind nodes
   front_starts nodes rest starts = sym (ap (take told.behind) starts ∙ take_at (take told.behind after) rest told.behind (ap length front_is ∙ sym fit.behind_is))
 
   -- nodes with the same front are as fitting leaves them

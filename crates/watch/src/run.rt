@@ -1,5 +1,6 @@
 // A run: a draft fitted by a measure, its plan armed, and any list of calls made of the watch.
 ghost use Rattle.std.specs.Prelude.{◌≡◌, ℕ, min, false, length, take, drop, is_ok};
+ghost use Rattle.rules.specs.declared.Answer.TheVariants as answer;
 ghost use Rattle.pruning.specs.Drafts.{rule_of};
 ghost use Rattle.watch.specs.Running.{CallsMade, RunAnswered, lent};
 ghost use Rattle.watch.specs.Watching.{CalledOn};
@@ -10,7 +11,7 @@ use fitting::fit::{FitRefusal, Fitting, fit};
 use fitting::plan::Plan;
 use fitting::plan::make::make_plan;
 use rulefile::draft::Draft;
-use rules::{Answer, Call, Node, Refusal};
+use rules::{Answer, Call, Node, Refusal, Tried};
 use sources::source::LineSource;
 
 // What a run tells: what fitting told, and how many calls were made.
@@ -18,6 +19,13 @@ use sources::source::LineSource;
 pub struct Ran {
     pub told: Fitting,
     pub made: usize,
+}
+
+// What a rehearsal told, as an answer among all: a function over `Answer::Tried`, so that a clause of this crate says that word and count stay.
+fn rehearsed(tried: Tried) -> Answer
+    ensures { result ≡ answer.Tried tried }
+{
+    Answer::Tried(tried)
 }
 
 impl Watch<'_, '_> {
@@ -29,7 +37,7 @@ impl Watch<'_, '_> {
         match call {
             Call::Take => self.take(source).map(Answer::Taken),
             Call::Look => Ok(Answer::Shown(self.look())),
-            Call::Rehearse(events) => self.rehearse(events).map(Answer::Tried),
+            Call::Rehearse(events) => self.rehearse(events).map(rehearsed),
             Call::Rearm => {
                 self.rearm();
                 Ok(Answer::Armed)

@@ -1,5 +1,5 @@
 // The making of a plan from a draft and the nodes that fitting wrote. It is total: where something is off, it gives the plan of the one-state draft.
-ghost use Rattle.std.specs.Prelude.{◌≡◌, MatchOption};
+ghost use Rattle.std.specs.Prelude.{◌≡◌, Decides, MatchOption};
 ghost use Rattle.rules.specs.trees.Costs.{Price, Lawful};
 ghost use Rattle.rulefile.specs.Draft.{contents_of, empty_contents};
 ghost use Rattle.pruning.specs.Drafts.{rule_of};
@@ -61,6 +61,20 @@ fn one_state_plan() -> Plan<'static>
     plan_of(one_state_draft(), &LEAF, [0; 32])
 }
 
+// Whether two nodes are the same: a function over `==`, so that a clause of this crate says that no part of a node is left out.
+fn equal_nodes(a: Node, b: Node) -> bool
+    ensures { Decides result (a ≡ b) }
+{
+    a == b
+}
+
+// Whether two lists hold the same nodes, each pair compared by `equal_nodes`.
+fn same_nodes(a: &[Node], b: &[Node]) -> bool
+    ensures { Decides result (a.now ≡ b.now) }
+{
+    a.len() == b.len() && a.iter().zip(b).all(|(x, y)| equal_nodes(*x, *y))
+}
+
 // What fitting tells of a draft, where the nodes are as it leaves them.
 fn as_fitted<M: Measure>(measure: &M, draft: &Draft, nodes: &[Node]) -> Option<Fitting>
     ensures { MatchOption result ((told : Fitting) → AsFitted (M.price measure.now) (rule_of draft.now) nodes.now told → ⊥) (AsFitted (M.price measure.now) (rule_of draft.now) nodes.now) }
@@ -70,7 +84,7 @@ fn as_fitted<M: Measure>(measure: &M, draft: &Draft, nodes: &[Node]) -> Option<F
     }
     let mut scratch = [Node::Leaf { set: 0 }; NODES];
     let told = fit_states(measure, draft, &mut scratch);
-    nodes.starts_with(&scratch[..told.behind]).then_some(told)
+    same_nodes(&nodes[..told.behind], &scratch[..told.behind]).then_some(told)
 }
 
 // The plan of a draft over nodes that are as fitting leaves them; else the plan of the one-state draft.
